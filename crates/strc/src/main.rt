@@ -15,9 +15,8 @@ use strc_command::line::{Command, Line, LineFault};
 use strc_command::words::{VERSION, asks_for_help, asks_for_version, command, usage_error};
 use strc_explain::explain::{Explained, execute_explained};
 use strc_explain::stages::times_message;
+use strc_ring::{Gate, OpenGate, StageTimes};
 use strc_stages::Stage;
-use strc_times::StageTimes;
-use strc_worker::{Gate, OpenGate};
 
 // The exit statuses that no answer of `execute_explained` has.
 const DONE: u8 = 0;

@@ -15,10 +15,10 @@ use Rattle.strc_graph.specs.Meaning.{node_meaning, ports_in}
 use Rattle.strc_graph.proofs.Carriers.{carrier_is_input}
 use Rattle.strc_balance.specs.Balance.{count_limit}
 use Rattle.strc_startup.specs.Rates.{rates_of_channel, first_count}
-use Rattle.strc_order.specs.Firings.{Firings, none_fired, fill}
-use Rattle.strc_order.specs.Order.{firing_count, after}
-use Rattle.strc_order.specs.Schedules.{ScheduleParts}
-use Rattle.strc_order.proofs.FiringCounts.{firing_count_append}
+use Rattle.strc_schedule.specs.Firings.{Firings, none_fired, fill}
+use Rattle.strc_schedule.specs.Order.{firing_count, after}
+use Rattle.strc_schedule.specs.Schedules.{ScheduleParts}
+use Rattle.strc_schedule.proofs.FiringCounts.{firing_count_append}
 use Rattle.strc_admissible.specs.Planned.{IsPlanned, AreKnown, items_read}
 use Rattle.strc_admissible.specs.Laws.{counts_at}
 use Rattle.strc_admissible.specs.Fits.{Queues, FitNow, Fit}

@@ -12,7 +12,7 @@ use Rattle.strc_graph.proofs.Firings.{PushesAtRates, node_keeps_rates, takes_wit
 use Rattle.strc_graph.proofs.Quiet.{then_ok}
 use Rattle.strc_rate.specs.Kept as kept
 use Rattle.strc_rate.proofs.KeptRates.{rates_kept}
-use Rattle.strc_order.specs.Schedules.{ScheduleParts}
+use Rattle.strc_schedule.specs.Schedules.{ScheduleParts}
 use Rattle.strc_admissible.specs.Planned.{IsFilterOf, IsPlanned, AreKnown}
 use Rattle.strc_admissible.proofs.Codes.{code_there}
 

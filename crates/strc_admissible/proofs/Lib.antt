@@ -29,3 +29,9 @@ pub mod RingRuns
 pub mod Found
 pub mod StepRoom
 pub mod RingRoom
+pub mod GoingOn
+pub mod Nodes
+pub mod Repeats
+pub mod Parts
+pub mod Peeking
+pub mod Alike

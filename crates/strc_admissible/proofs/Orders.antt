@@ -14,9 +14,9 @@ use Rattle.strc_graph.specs.FlatGraphs.{IsProgram}
 use Rattle.strc_graph.specs.Meaning.{node_meaning}
 use Rattle.strc_graph.specs.Rates.{fires_by_rounds}
 use Rattle.strc_startup.specs.Rates.{rates_of}
-use Rattle.strc_order.specs.Firings.{Firings, fired}
-use Rattle.strc_order.specs.Order.{firing_count, after, IsOrder}
-use Rattle.strc_order.proofs.FiringCounts.{turns_same}
+use Rattle.strc_schedule.specs.Firings.{Firings, fired}
+use Rattle.strc_schedule.specs.Order.{firing_count, after, IsOrder}
+use Rattle.strc_schedule.proofs.FiringCounts.{turns_same}
 use Rattle.strc_admissible.proofs.Windows.{is_ready}
 
 -- counts in both layers

@@ -17,7 +17,7 @@ use Rattle.strc_admissible.specs.Machine.{CircuitView, MachineView, next_step, a
 use Rattle.strc_admissible.specs.Machine.{then_go, order_run}
 use Rattle.strc_admissible.specs.NodeSteps.{HasOwnWindow}
 use Rattle.strc_admissible.specs.Simulation.{Simulates, IsAlike, StepsGoAlike, OrdersGoAlike}
-use Rattle.strc_order.proofs.FiringCounts.{turns_same}
+use Rattle.strc_schedule.proofs.FiringCounts.{turns_same}
 use Rattle.strc_admissible.proofs.FiringAlike.{fire_alike}
 use Rattle.strc_admissible.proofs.Orders.{AreNodes}
 use Rattle.strc_admissible.proofs.Splitting.{fit_now}

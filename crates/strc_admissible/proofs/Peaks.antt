@@ -5,15 +5,15 @@ use mathlib.Core.Path.{fun_ext}
 use Rattle.strc_graph.specs.Graphs.{Graph}
 use Rattle.strc_startup.specs.Rates.{rates_of}
 use Rattle.strc_startup.specs.declared.channel_rates.ChannelRates.{ChannelRates}
-use Rattle.strc_order.specs.Buffers.{peak_fill, buffer_size}
-use Rattle.strc_order.specs.Firings.{Firings, none_fired, fired, fill}
-use Rattle.strc_order.specs.Order.{firing_count, after, repeated, IsOrder}
-use Rattle.strc_order.specs.Rounds.{rounds_on}
-use Rattle.strc_order.specs.Schedules.{ScheduleParts}
-use Rattle.strc_order.proofs.Buffering.{at_channel}
-use Rattle.strc_order.proofs.Fills.{peak_first, peak_last, peak_append}
-use Rattle.strc_order.proofs.Repeating.{no_buffer_overflows}
-use Rattle.strc_order.proofs.FiringCounts.{after_none, after_cons, firing_count_append}
+use Rattle.strc_schedule.specs.Buffers.{peak_fill, buffer_size}
+use Rattle.strc_schedule.specs.Firings.{Firings, none_fired, fired, fill}
+use Rattle.strc_schedule.specs.Order.{firing_count, after, repeated, IsOrder}
+use Rattle.strc_schedule.specs.Rounds.{rounds_on}
+use Rattle.strc_schedule.specs.Schedules.{ScheduleParts}
+use Rattle.strc_schedule.proofs.Buffering.{at_channel}
+use Rattle.strc_schedule.proofs.Fills.{peak_first, peak_last, peak_append}
+use Rattle.strc_schedule.proofs.Repeating.{no_buffer_overflows}
+use Rattle.strc_schedule.proofs.FiringCounts.{after_none, after_cons, firing_count_append}
 use Rattle.strc_admissible.specs.Planned.{IsPlanned}
 use Rattle.strc_admissible.specs.Laws.{startup_order, round_order}
 use Rattle.strc_admissible.proofs.Rounds.{at_startup, in_round, past_prework, balances}

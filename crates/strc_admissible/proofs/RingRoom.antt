@@ -11,9 +11,9 @@ use Rattle.strc_graph.specs.Graphs.{NodeCode, Graph}
 use Rattle.strc_graph.specs.FlatGraphs.{IsProgram}
 use Rattle.strc_graph.specs.Meaning.{node_meaning}
 use Rattle.strc_graph.specs.Rates.{pops_at}
-use Rattle.strc_order.specs.Order.{firing_count}
-use Rattle.strc_order.specs.Schedules.{ScheduleParts}
-use Rattle.strc_order.proofs.FiringCounts.{firing_count_append, turns_same}
+use Rattle.strc_schedule.specs.Order.{firing_count}
+use Rattle.strc_schedule.specs.Schedules.{ScheduleParts}
+use Rattle.strc_schedule.proofs.FiringCounts.{firing_count_append, turns_same}
 use Rattle.strc_admissible.specs.Circuits.{IsCircuit, IsFirst}
 use Rattle.strc_admissible.specs.Fits.{Queues, FitNow, FitThen, Fit}
 use Rattle.strc_admissible.specs.Laws.{counts_at, round_order}

@@ -15,12 +15,12 @@ use Rattle.strc_graph.specs.Rates.{fires_by_rounds, pops_at, pushes_at}
 use Rattle.strc_balance.specs.Balance.{count_at, IsBalanced}
 use Rattle.strc_balance.specs.Rates.{pops_by_work, pushes_by_work, equation_of}
 use Rattle.strc_startup.specs.Rates.{rates_of, rates_of_channel, first_count}
-use Rattle.strc_order.specs.Firings.{Firings, none_fired}
-use Rattle.strc_order.specs.Order.{firing_count, IsOrder}
-use Rattle.strc_order.specs.Rounds.{rounds_on, RoundBalances, IsPastPrework}
-use Rattle.strc_order.specs.Schedules.{ScheduleParts}
-use Rattle.strc_order.proofs.Repeating.{order_repeats}
-use Rattle.strc_order.proofs.PastPrework.{all_past_prework}
+use Rattle.strc_schedule.specs.Firings.{Firings, none_fired}
+use Rattle.strc_schedule.specs.Order.{firing_count, IsOrder}
+use Rattle.strc_schedule.specs.Rounds.{rounds_on, RoundBalances, IsPastPrework}
+use Rattle.strc_schedule.specs.Schedules.{ScheduleParts}
+use Rattle.strc_schedule.proofs.Repeating.{order_repeats}
+use Rattle.strc_schedule.proofs.PastPrework.{all_past_prework}
 use Rattle.strc_admissible.specs.Planned.{IsPlanned, items_read}
 use Rattle.strc_admissible.specs.Laws.{startup_order, round_order, counts_at}
 use Rattle.strc_admissible.proofs.Inputs.{reader_reads}

@@ -20,7 +20,7 @@ use Rattle.strc_graph.specs.Graphs.{NodeCode, Identity, Graph}
 use Rattle.strc_graph.specs.FlatGraphs.{IsProgram}
 use Rattle.strc_graph.specs.Meaning.{node_meaning, node_fields}
 use Rattle.strc_graph.specs.Rates.{fires_by_rounds}
-use Rattle.strc_order.specs.Order.{repeated}
+use Rattle.strc_schedule.specs.Order.{repeated}
 use Rattle.strc_admissible.specs.Circuits.{IsCircuit, IsFirst}
 use Rattle.strc_admissible.specs.Fits.{Queues, FitNow, FitThen, Fit}
 use Rattle.strc_admissible.specs.Machine as machines

@@ -14,7 +14,7 @@ use Rattle.strc_graph.specs.Meaning.{node_meaning}
 use Rattle.strc_graph.specs.Rates.{fires_by_rounds, pops_at, pushes_at}
 use Rattle.strc_startup.specs.Rates.{rates_of_channel}
 use Rattle.strc_startup.specs.Startup.{popped, supply}
-use Rattle.strc_order.specs.Firings.{Firings, fill}
+use Rattle.strc_schedule.specs.Firings.{Firings, fill}
 use Rattle.strc_admissible.proofs.Codes.{code_is}
 use Rattle.strc_admissible.proofs.Totals.{pushed_is, popped_is}
 

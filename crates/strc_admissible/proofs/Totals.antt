@@ -9,7 +9,7 @@ use Rattle.strc_graph.specs.Rates.{fires_by_rounds, window_at, pops_at, pushes_a
 use Rattle.strc_graph.proofs.Firings.{windows_settle, pops_settle, pushes_settle}
 use Rattle.strc_startup.specs.Rates.{rates_of_channel}
 use Rattle.strc_startup.specs.Startup.{pushed, popped}
-use Rattle.strc_order.specs.Firings.{reach}
+use Rattle.strc_schedule.specs.Firings.{reach}
 
 -- a rate that no later firing changes, added up
 total_settled : (rate : ℕ → ℕ → ℕ) (port : ℕ) → ((n : ℕ) → rate (suc n) port ≡ rate 1 port)

@@ -16,7 +16,7 @@ use Rattle.strc_graph.specs.Meaning.{node_meaning, ports_in}
 use Rattle.strc_graph.specs.Rates.{fires_by_rounds, window_at, pops_at}
 use Rattle.strc_graph.proofs.Idle.{idle_port}
 use Rattle.strc_startup.specs.Rates.{rates_of, rates_of_channel}
-use Rattle.strc_order.specs.Firings.{Firings, HasWindow, FindsWindows}
+use Rattle.strc_schedule.specs.Firings.{Firings, HasWindow, FindsWindows}
 use Rattle.strc_admissible.proofs.Codes.{code_is}
 use Rattle.strc_admissible.proofs.Supplies.{element, supply_is}
 use Rattle.strc_admissible.proofs.Totals.{total_idle, reach_is}

@@ -11,3 +11,9 @@ pub mod ByChannels
 pub mod RingAnswer
 pub mod Simulation
 pub mod RingRoom
+pub mod GoingOn
+pub mod Nodes
+pub mod Repeats
+pub mod Dealing
+pub mod DealingRow
+pub mod PartsLaws

@@ -11,7 +11,7 @@ use Rattle.strc_balance.specs.Balance.{count_at, IsWithinLimit}
 use Rattle.strc_balance.specs.Rates.{IsRated, equations_of, size_of, fires_by_rounds}
 use Rattle.strc_startup.specs.Startup as start
 use Rattle.strc_startup.specs.Rates.{rates_of, first_counts}
-use Rattle.strc_order.specs.Schedules.{ScheduleParts, IsRunnable}
+use Rattle.strc_schedule.specs.Schedules.{ScheduleParts, IsRunnable}
 
 -- a node is a filter of a graph
 abbrev pub IsFilterOf : Graph → filters.Filter → Type 0

@@ -12,8 +12,8 @@ use Rattle.strc_graph.specs.Graphs.{NodeCode, Channel, Graph}
 use Rattle.strc_graph.specs.FlatGraphs.{IsProgram}
 use Rattle.strc_graph.specs.Meaning.{node_meaning, node_fired}
 use Rattle.strc_graph.specs.Rates.{pops_at}
-use Rattle.strc_order.specs.Order.{repeated}
-use Rattle.strc_order.specs.Schedules.{ScheduleParts}
+use Rattle.strc_schedule.specs.Order.{repeated}
+use Rattle.strc_schedule.specs.Schedules.{ScheduleParts}
 use Rattle.strc_admissible.specs.Circuits.{IsCircuit, IsFirst}
 use Rattle.strc_admissible.specs.Fits.{Queues}
 use Rattle.strc_admissible.specs.Laws.{startup_order, round_order, counts_at}

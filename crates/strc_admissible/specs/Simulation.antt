@@ -9,7 +9,7 @@ use Rattle.strc_semantics.specs.declared.fault.Cause.{Cause}
 use Rattle.strc_semantics.specs.declared.word.Word.{Word}
 use Rattle.strc_graph.specs.Graphs.{NodeCode, FileReader, Channel, Graph}
 use Rattle.strc_graph.specs.Meaning.{node_meaning}
-use Rattle.strc_order.specs.Order.{firing_count}
+use Rattle.strc_schedule.specs.Order.{firing_count}
 use Rattle.strc_admissible.specs.ByChannels.{IsByChannels}
 use Rattle.strc_admissible.specs.Circuits.{IsCircuit}
 use Rattle.strc_admissible.specs.Fits.{Queues, FitNow, FitThen, Fit}

@@ -1,14 +1,17 @@
-// Takes a flat graph that a whole program has, with its schedule.
-// Gives no code but laws: the schedule is admissible, and its run over rings is right.
-// The theorems to rely on: `schedules_are_admissible`: in start-up and in each round each firing
-// finds what it looks at, no buffer holds more than its size, and the run over queues gives the
-// answer of the stream equations; `ring_runs_answer`: so does the run over rings of those sizes;
-// `rings_have_room`: in which no item is lost; `nodes_step_alike`: a step of any node over rings is
-// its firing over queues; `steps_go_alike`, `orders_go_alike`: and so it is in any graph.
-// Stands on strc_dataflow, whose theorem of the run it applies, on strc_graph, whose nodes it runs,
-// on strc_order, strc_startup and strc_balance, whose orders and counts it speaks of, on strc_rate,
-// whose filters keep their rates, and on strc_semantics, whose filters these are.
+// Takes a flat graph with its counts and its schedule; or a graph that goes on from a state.
+// Gives laws: on schedules of one machine over rings (this file), on windows and items dealt to the
+// parts of a split node (`dealing_laws`, `alike`), and on planned graphs that go on from a state
+// (`parts_laws`).
+// The theorems to rely on: `schedules_are_admissible`, `rings_have_room`, `ring_runs_answer`,
+// `orders_go_alike`.
+// Stands on strc_schedule, strc_startup and strc_balance, whose results make a schedule, on
+// strc_rate, by which firings keep their rates, on strc_graph, and on strc_dataflow, whose laws
+// these are instances of.
 #![tactic(auto)]
+
+pub mod dealing_laws;
+pub mod laws;
+pub mod parts_laws;
 
 ghost use Rattle.strc_admissible.specs.Laws.{SchedulesAreAdmissible};
 ghost use Rattle.strc_admissible.specs.RingAnswer.{RingRunsAnswer};

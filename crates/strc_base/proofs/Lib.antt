@@ -1,1 +1,5 @@
 pub mod Lists
+pub mod Tables
+pub mod Scopes
+pub mod Numbered
+pub mod ScopeMaps

@@ -1,2 +1,4 @@
 pub mod Names
 pub mod Results
+pub mod Tables
+pub mod Scopes

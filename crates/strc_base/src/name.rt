@@ -1,18 +1,20 @@
 // Names and strings of programs.
 
+use crate::place::Span;
 use std::alloc::AllocError;
 use std::marker::Model;
 
 /// A name: a letter or `_`, then letters, digits and `_`. Contracts see it as the list of its
-/// bytes.
+/// bytes, and nothing of where it is written.
 #[derive(Debug)]
 pub struct Name {
     bytes: Vec<u8>,
+    at: Option<u32>,
 }
 
 impl Drop for Name {
     fn drop(self) {
-        let Name { bytes: _ } = self;
+        let Name { bytes: _, at: _ } = self;
     }
 }
 
@@ -31,7 +33,26 @@ impl Name {
     pub fn new(bytes: Vec<u8>) -> Name
         ensures { result ≡ bytes.items }
     {
-        Name { bytes }
+        Name { bytes, at: None }
+    }
+
+    /// The name that these bytes are, written at this byte of a text. It takes no memory.
+    pub fn written_at(bytes: Vec<u8>, at: usize) -> Name
+        ensures { result ≡ bytes.items }
+    {
+        Name {
+            bytes,
+            at: u32::try_from(at).ok(),
+        }
+    }
+
+    /// Where the name is written, if it comes from a text.
+    pub fn place(&self) -> Option<Span> {
+        let start = self.at? as usize;
+        Some(Span {
+            start,
+            end: start.saturating_add(self.bytes.len()),
+        })
     }
 
     /// The bytes of the name.
@@ -41,11 +62,14 @@ impl Name {
         self.bytes.as_slice()
     }
 
-    /// An equal name.
+    /// An equal name, written at the same place.
     pub fn copy(&self) -> Result<Name, AllocError>
         ensures { IfOk result (λ name. name ≡ self.now) }
     {
-        Ok(Name::new(self.bytes.clone()?))
+        Ok(Name {
+            bytes: self.bytes.clone()?,
+            at: self.at,
+        })
     }
 
     /// Whether the two names are the same.

@@ -10,7 +10,7 @@ use std::thread::Threads;
 use strc_cli::device::{Sink, Source, Told};
 use strc_cli::execute::{CliError, execute};
 use strc_command::line::Command;
-use strc_worker::OpenGate;
+use strc_ring::OpenGate;
 
 // The status of a text that is refused.
 const REFUSED: u8 = 2;

@@ -9,7 +9,7 @@ use strc_cli::device::{Sink, Source, Told};
 use strc_cli::execute::{CliError, Status, execute};
 use strc_cli::program_text::{TextFault, read_text};
 use strc_command::line::Command;
-use strc_worker::OpenGate;
+use strc_ring::OpenGate;
 
 // A source and a printer in a pipeline.
 const MINIMAL: &str = "void->int filter IntSource { int x; work push 1 { push(x++); } }

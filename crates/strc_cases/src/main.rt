@@ -27,8 +27,7 @@ use strc_cli::device::Told;
 use strc_command::line::{Command, LineFault};
 use strc_command::words::command;
 use strc_explain::explain::execute_explained;
-use strc_times::StageTimes;
-use strc_worker::OpenGate;
+use strc_ring::{OpenGate, StageTimes};
 
 // The status of a command line that isn't understood, as of the program's.
 const WORDS: u8 = 1;

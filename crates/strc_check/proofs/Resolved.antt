@@ -6,7 +6,7 @@ use Rattle.strc_syntax.specs.Tree as tree
 use Rattle.strc_syntax.specs.View.{stmt_view, block_view}
 use Rattle.strc_syntax.specs.declared.tree.Stmt.{Stmt}
 use Rattle.strc_check.specs.declared.error.LowerError.{LowerError}
-use Rattle.strc_check.specs.declared.error.LowerError.TheVariants as refused
+use Rattle.strc_check.specs.declared.error.LowerErrorKind.TheVariants as refused
 use Rattle.strc_check.specs.Resolution as judged
 use Rattle.strc_check.specs.Typing.{TypedNames, names_after}
 use Rattle.strc_check.specs.Verdicts.{IsRefusal, IsVerdict}

@@ -21,7 +21,7 @@ use Rattle.strc_check.specs.Resolution.{member_resolved, members_resolved, has_p
 use Rattle.strc_check.specs.Resolution.{filter_resolved}
 use Rattle.strc_semantics.specs.Closed.{IsNamed, AreClosedFields, AreClosed, IsClosedMember}
 use Rattle.strc_semantics.specs.Closed.{AreClosedMembers, IsClosedFilter}
-use Rattle.strc_names.proofs.Scopes.{bytes_eq_same}
+use Rattle.strc_base.proofs.Scopes.{bytes_eq_same}
 use Rattle.strc_check.proofs.ResolvingStatements.{Gives, then_gives, any_gives, kept_gives, Sees}
 use Rattle.strc_check.proofs.ResolvingStatements.{named_in, plain_declared, FitsType, FitsDeclared}
 use Rattle.strc_check.proofs.ResolvingStatements.{type_gives, IsLikeVariable, initial_like}

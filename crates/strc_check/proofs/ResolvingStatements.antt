@@ -12,7 +12,7 @@ use Rattle.strc_syntax.specs.declared.tree.UnaryOperator.{UnaryOperator}
 use Rattle.strc_syntax.specs.declared.tree.BinaryOperator.{BinaryOperator}
 use Rattle.strc_check.specs.declared.error.LowerError.{LowerError}
 use Rattle.strc_semantics.specs.declared.fault.Cause.TheVariants.{Index}
-use Rattle.strc_check.specs.declared.error.LowerError.TheVariants as refused
+use Rattle.strc_check.specs.declared.error.LowerErrorKind.TheVariants as refused
 use Rattle.strc_check.specs.declared.type_rules.TheConstants.{LENGTH_LIMIT}
 use Rattle.strc_check.specs.declared.types.ValueType.{ValueType}
 use Rattle.strc_check.specs.declared.types.ValueType.TheVariants.{Int, Boolean, Array}

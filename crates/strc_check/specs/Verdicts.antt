@@ -6,7 +6,7 @@ use Rattle.strc_syntax.specs.declared.tree.Stmt.{Stmt}
 use Rattle.strc_syntax.specs.declared.tree.Variable.{Variable}
 use Rattle.strc_syntax.specs.declared.tree.RateTree.{RateTree}
 use Rattle.strc_check.specs.declared.error.LowerError.{LowerError}
-use Rattle.strc_check.specs.declared.error.LowerError.TheVariants as refused
+use Rattle.strc_check.specs.declared.error.LowerErrorKind.TheVariants as refused
 use Rattle.strc_check.specs.declared.resolution.ResolvedWork.{ResolvedWork}
 use Rattle.strc_check.specs.declared.context.Context.{Context}
 use Rattle.strc_check.specs.declared.type_rules.ResolvedType.{ResolvedType}

@@ -7,7 +7,7 @@ use std::alloc::Global;
 use std::marker::Model;
 use strc_base::memory::NoMemory;
 use strc_base::name::Name;
-use strc_names::scope_map::ScopeMap;
+use strc_base::scope_map::ScopeMap;
 
 /// Names with their values. Contracts see the list of the pairs, the one pushed last first: it
 /// shadows earlier ones of its name. A look-up takes expected constant time.

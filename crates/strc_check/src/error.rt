@@ -1,15 +1,29 @@
 // Why a filter isn't accepted.
 
+ghost use Rattle.std.specs.Prelude.{◌≡◌};
+ghost use Rattle.strc_check.specs.declared.error.LowerErrorKind.TheVariants as refused;
+
+use crate::site::{Mismatch, Site};
 use crate::spelled::spelled;
 use std::alloc::{AllocError, AllocFailed};
+use std::marker::Model;
 use strc_base::memory::NoMemory;
 use strc_base::name::Name;
+use strc_base::place::Span;
 use strc_semantics::fault::Cause;
 use thiserror::Error;
 
-/// Why a filter isn't lowered: the first rule that it breaks, in order of the text.
+/// Why a filter isn't lowered: the first rule that it breaks, in order of the text. Contracts see
+/// it as its kind, and nothing of its site.
+#[derive(Drop)]
+pub struct LowerError {
+    kind: LowerErrorKind,
+    site: Site,
+}
+
+/// Which rule a filter breaks.
 #[derive(Debug, Drop, Error)]
-pub enum LowerError {
+pub enum LowerErrorKind {
     /// A name that isn't declared.
     #[error("{text} isn't declared", text = spelled(.name))]
     UnknownName { name: Name },
@@ -24,35 +38,116 @@ pub enum LowerError {
     NoMemory,
 }
 
-impl From<NoMemory> for LowerError {
-    ghost use Rattle.std.specs.Prelude.{◌≡◌};
-    ghost use Rattle.strc_check.specs.declared.error.LowerError.TheVariants as refused;
+impl Model for LowerError {
+    ghost use Rattle.strc_check.specs.declared.error.LowerErrorKind.{LowerErrorKind};
 
+    ghost Value = { LowerErrorKind };
+
+    ghost view = { λ e. e.kind };
+}
+
+impl LowerError {
+    /// The name isn't declared; it is the place.
+    pub fn unknown(name: Name) -> LowerError
+        ensures { result ≡ refused.UnknownName name }
+    {
+        let site = Site::unknown().or_at(name.place());
+        LowerError {
+            kind: LowerErrorKind::UnknownName { name },
+            site,
+        }
+    }
+
+    /// A rule on types, kinds and parts is broken.
+    pub fn mismatch(mismatch: Mismatch) -> LowerError
+        ensures { result ≡ refused.TypeMismatch }
+    {
+        LowerError {
+            kind: LowerErrorKind::TypeMismatch,
+            site: Site::of(mismatch),
+        }
+    }
+
+    /// A number that must be known faults.
+    pub fn fault(cause: Cause) -> LowerError
+        ensures { result ≡ refused.ConstFault cause }
+    {
+        LowerError {
+            kind: LowerErrorKind::ConstFault { cause },
+            site: Site::unknown(),
+        }
+    }
+
+    /// Memory was refused.
+    pub fn no_memory() -> LowerError
+        ensures { result ≡ refused.NoMemory }
+    {
+        LowerError {
+            kind: LowerErrorKind::NoMemory,
+            site: Site::unknown(),
+        }
+    }
+
+    /// The same error; at this place, where none was known.
+    pub fn or_at(self, place: Option<Span>) -> LowerError
+        ensures { result ≡ self }
+    {
+        LowerError {
+            kind: self.kind,
+            site: self.site.or_at(place),
+        }
+    }
+
+    /// Which rule is broken.
+    pub fn kind(&self) -> &LowerErrorKind
+        ensures { result.now ≡ self.now }
+    {
+        &self.kind
+    }
+
+    /// Which rule is broken, taken out of the error.
+    pub fn into_kind(self) -> LowerErrorKind
+        ensures { result ≡ self }
+    {
+        self.kind
+    }
+
+    /// Where it is broken, as far as that is known.
+    pub fn site(&self) -> Site {
+        self.site
+    }
+}
+
+/// An answer; where it is an error without a place, at this one.
+pub fn placed<T>(place: Option<Span>, answer: Result<T, LowerError>) -> Result<T, LowerError>
+    ensures { result ≡ answer }
+{
+    match answer {
+        Ok(value) => Ok(value),
+        Err(error) => Err(error.or_at(place)),
+    }
+}
+
+impl From<NoMemory> for LowerError {
     ghost from_gives = { λ _ e. e ≡ refused.NoMemory };
 
     fn from(_error: NoMemory) -> LowerError {
-        LowerError::NoMemory
+        LowerError::no_memory()
     }
 }
 
 impl From<AllocError> for LowerError {
-    ghost use Rattle.std.specs.Prelude.{◌≡◌};
-    ghost use Rattle.strc_check.specs.declared.error.LowerError.TheVariants as refused;
-
     ghost from_gives = { λ _ e. e ≡ refused.NoMemory };
 
     fn from(_error: AllocError) -> LowerError {
-        LowerError::NoMemory
+        LowerError::no_memory()
     }
 }
 
 impl<T: Drop> From<AllocFailed<T>> for LowerError {
-    ghost use Rattle.std.specs.Prelude.{◌≡◌};
-    ghost use Rattle.strc_check.specs.declared.error.LowerError.TheVariants as refused;
-
     ghost from_gives = { λ _ e. e ≡ refused.NoMemory };
 
     fn from(_error: AllocFailed<T>) -> LowerError {
-        LowerError::NoMemory
+        LowerError::no_memory()
     }
 }

@@ -8,6 +8,7 @@ ghost use Rattle.strc_check.specs.Verdicts.{IsVerdict, context_of, typed_view};
 
 use crate::context::Context;
 use crate::error::LowerError;
+use crate::site::Mismatch;
 use crate::typed::{self, Typed};
 use crate::typed_scope::TypedScope;
 use crate::types::{self, ValueType};
@@ -41,7 +42,7 @@ pub fn resolve_expr(
         }
         Expr::Pop => {
             if !context.pops {
-                return Err(LowerError::TypeMismatch);
+                return Err(LowerError::mismatch(Mismatch::NoInput));
             }
             Ok(typed::number(Expr::Pop))
         }
@@ -126,10 +127,10 @@ fn resolve_name(context: &Context, names: &TypedScope, name: &Name) -> Result<Ty
 {
     if let Some(kind) = names.type_of(name) {
         if context.constants_only {
-            return Err(LowerError::TypeMismatch);
+            return Err(LowerError::mismatch(Mismatch::VariableInConstant));
         }
         if types::is_array(kind) {
-            return Err(LowerError::TypeMismatch);
+            return Err(LowerError::mismatch(Mismatch::WholeArray));
         }
         let name = name.copy()?;
         return Ok(Typed {
@@ -141,7 +142,7 @@ fn resolve_name(context: &Context, names: &TypedScope, name: &Name) -> Result<Ty
         Some(value) => Ok(typed::number(Expr::Number(value))),
         None => {
             let name = name.copy()?;
-            Err(LowerError::UnknownName { name })
+            Err(LowerError::unknown(name))
         }
     }
 }

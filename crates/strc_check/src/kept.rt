@@ -2,7 +2,7 @@
 // runs out is proved once, and not at each of its types.
 
 ghost use Rattle.std.specs.Prelude.{◌≡◌, ◌⊎◌, [], ◌∷◌, ◌++◌, IfOk, IfErr, OnOk, Ok, Err};
-ghost use Rattle.strc_check.specs.declared.error.LowerError.TheVariants as refused;
+ghost use Rattle.strc_check.specs.declared.error.LowerErrorKind.TheVariants as refused;
 
 use crate::error::LowerError;
 use std::alloc::AllocError;

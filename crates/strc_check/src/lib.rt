@@ -13,6 +13,7 @@ mod kept;
 mod parts;
 mod rates;
 pub mod resolution;
+pub mod site;
 pub mod spelled;
 pub mod statement_rules;
 pub mod type_rules;

@@ -4,6 +4,7 @@ ghost use Rattle.std.specs.Prelude.{◌≡◌};
 ghost use Rattle.strc_semantics.specs.Filters as filters;
 ghost use Rattle.strc_check.specs.Resolution as judged;
 
+use crate::site::Mismatch;
 use strc_syntax::tree::Member;
 
 /// Whether there is one work, and at most one prework and one `init`.
@@ -14,6 +15,19 @@ pub fn has_parts(members: &[Member]) -> bool
     let preworks = prework_count(members);
     let inits = init_count(members);
     works == 1 && preworks < 2 && inits < 2
+}
+
+/// Which rule on its parts a filter breaks that hasn't the right ones.
+pub fn broken_rule(members: &[Member]) -> Mismatch {
+    if work_count(members) == 0 {
+        Mismatch::NoWork
+    } else if work_count(members) > 1 {
+        Mismatch::SecondWork
+    } else if prework_count(members) > 1 {
+        Mismatch::SecondPrework
+    } else {
+        Mismatch::SecondInit
+    }
 }
 
 /// How many works there are.

@@ -6,8 +6,9 @@ ghost use Rattle.strc_check.specs.Resolution as judged;
 ghost use Rattle.strc_check.specs.Verdicts.{IsVerdict, RateList};
 
 use crate::constants::Constants;
-use crate::error::LowerError;
+use crate::error::{LowerError, placed};
 use crate::kept::push_next;
+use crate::site::Mismatch;
 use crate::typed_scope::TypedScope;
 use crate::types::ValueType;
 use crate::{context, expression_rules};
@@ -36,8 +37,25 @@ pub fn resolve_rates(
     Ok(resolved)
 }
 
-/// A rate, on a side where it may be declared.
+/// A rate, whose place a refusal of it gets.
 fn resolve_rate(
+    alloc: Global,
+    constants: &Constants,
+    fields: &TypedScope,
+    input: ItemType,
+    output: ItemType,
+    written: &RateTree,
+) -> Result<RateTree, LowerError>
+    ensures { IsVerdict rate_view
+        (judged.rate_resolved constants.now fields.now input output (rate_view written.now))
+        result }
+{
+    let resolved = resolve_side(alloc, constants, fields, input, output, written);
+    placed(Some(written.place), resolved)
+}
+
+/// A rate, on a side where it may be declared.
+fn resolve_side(
     alloc: Global,
     constants: &Constants,
     fields: &TypedScope,
@@ -51,11 +69,12 @@ fn resolve_rate(
 {
     let number = resolve_number(alloc, constants, fields, &written.rate)?;
     if !fits(input, output, written.kind, number) {
-        return Err(LowerError::TypeMismatch);
+        return Err(LowerError::mismatch(Mismatch::RateWithoutItems));
     }
     Ok(RateTree {
         kind: written.kind,
         rate: Expr::Number(number),
+        place: written.place,
     })
 }
 
@@ -74,7 +93,7 @@ pub fn resolve_number(
     let value = expression_rules::resolve_as(alloc, &context, names, ValueType::Int, value)?;
     match evaluation::constant_value(&value) {
         Ok(number) => Ok(number),
-        Err(cause) => Err(LowerError::ConstFault { cause }),
+        Err(cause) => Err(LowerError::fault(cause)),
     }
 }
 

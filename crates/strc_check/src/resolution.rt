@@ -4,7 +4,9 @@
 ghost use Rattle.std.specs.Prelude.{◌≡◌, IfOk, OnOk, Vec, [], ◌∷◌, map};
 ghost use Rattle.std.specs.declared.alloc.Global.{Global as Memory};
 ghost use Rattle.strc_syntax.specs.declared.tree.Member.{Member as MemberTree};
+ghost use Rattle.strc_syntax.specs.Tree as tree;
 ghost use Rattle.strc_syntax.specs.View.{variable_view, member_view, rate_view, block_view};
+ghost use Rattle.strc_syntax.specs.View.{type_view};
 ghost use Rattle.strc_semantics.specs.Filters.{filter_of, filter_parts, members_of};
 ghost use Rattle.strc_check.specs.Typing as typing;
 ghost use Rattle.strc_check.specs.Resolution as judged;
@@ -12,14 +14,15 @@ ghost use Rattle.strc_check.specs.Verdicts.{IsVerdict, context_of, work_view, Va
 
 use crate::constants::Constants;
 use crate::context::{self, Context};
-use crate::error::LowerError;
+use crate::error::{LowerError, placed};
 use crate::kept::push_next;
+use crate::site::Mismatch;
 use crate::typed_scope::TypedScope;
 use crate::types::{self, ValueType};
 use crate::{expression_rules, parts, rates, statement_rules, type_rules};
 use std::alloc::Global;
 use strc_base::memory::NoMemory;
-use strc_names::scope::Scope;
+use strc_base::scope::Scope;
 use strc_syntax::tree::{FilterTree, ItemType, Member, RateTree, Stmt, Variable, Variables};
 
 /// A body with its constants substituted.
@@ -42,7 +45,7 @@ pub fn resolve_filter(
         result }
 {
     if !parts::has_parts(members) {
-        return Err(LowerError::TypeMismatch);
+        return Err(LowerError::mismatch(parts::broken_rule(members)));
     }
     let mut fields = typed_fields(alloc, members)?;
     let members = resolve_members(alloc, input, output, constants, &mut fields, members)?;
@@ -125,22 +128,10 @@ fn resolve_member(
         (member_view member.now)) }
 {
     match member {
-        Member::Fields(declared) => {
-            let context = context::init_context(constants);
-            let resolved = type_rules::resolve_type(alloc, constants, fields, &declared.kind)?;
-            let variables = resolve_fields(
-                alloc,
-                &context,
-                fields,
-                before,
-                resolved.kind,
-                &declared.variables,
-            )?;
-            Ok(Member::Fields(Variables {
-                kind: resolved.written,
-                variables,
-            }))
-        }
+        Member::Fields(declared) => placed(
+            Some(declared.place),
+            resolve_declared_fields(alloc, constants, fields, before, declared),
+        ),
         Member::Init(block) => {
             let context = context::init_context(constants);
             let block = statement_rules::resolve_block(alloc, &context, fields, block)?;
@@ -155,6 +146,39 @@ fn resolve_member(
             Ok(Member::Work(work.rates, work.block))
         }
     }
+}
+
+/// A declaration of fields.
+fn resolve_declared_fields(
+    alloc: Global,
+    constants: &Constants,
+    fields: &TypedScope,
+    before: &mut Scope,
+    declared: &Variables,
+) -> Result<Member, LowerError>
+    ensures verdict { (input output : ItemType) → IsVerdict member_view
+        (judged.member_resolved constants.now input output fields.now before.old
+        (tree.Fields (type_view declared.now.kind)
+        (map variable_view declared.now.variables.items)))
+        result }
+    ensures before { OnOk result (before.new ≡ typing.names_with before.old
+        (map variable_view declared.now.variables.items)) }
+{
+    let context = context::init_context(constants);
+    let resolved = type_rules::resolve_type(alloc, constants, fields, &declared.kind)?;
+    let variables = resolve_fields(
+        alloc,
+        &context,
+        fields,
+        before,
+        resolved.kind,
+        &declared.variables,
+    )?;
+    Ok(Member::Fields(Variables {
+        kind: resolved.written,
+        variables,
+        place: declared.place,
+    }))
 }
 
 /// Fields that are declared together. They see all fields.
@@ -197,7 +221,8 @@ fn resolve_field(
     ensures before { OnOk result (before.new ≡ variable.now.name ∷ before.old) }
 {
     if before.has(&variable.name) {
-        return Err(LowerError::TypeMismatch);
+        let twice = LowerError::mismatch(Mismatch::DeclaredTwice);
+        return Err(twice.or_at(variable.name.place()));
     }
     let initial = expression_rules::resolve_initial(
         alloc,

@@ -13,8 +13,9 @@ ghost use Rattle.strc_check.specs.Resolution as judged;
 ghost use Rattle.strc_check.specs.Verdicts.{IsVerdict, context_of, Statements, VariableList};
 
 use crate::context::Context;
-use crate::error::LowerError;
+use crate::error::{LowerError, placed};
 use crate::kept::{accept_node, push_next};
+use crate::site::Mismatch;
 use crate::typed_scope::TypedScope;
 use crate::types::{self, ValueType};
 use crate::{expression_rules, type_rules, writes};
@@ -63,7 +64,7 @@ pub(crate) fn resolve_stmt(
 {
     match statement {
         Stmt::Empty => Ok(Stmt::Empty),
-        Stmt::Compose(_) => Err(LowerError::TypeMismatch),
+        Stmt::Compose(_) => Err(LowerError::mismatch(Mismatch::StreamStatement)),
         Stmt::Block(body) => {
             let body = resolve_block(alloc, context, names, body)?;
             Ok(Stmt::Block(body))
@@ -87,14 +88,13 @@ pub(crate) fn resolve_stmt(
         Stmt::For(first, condition, step, body) => {
             resolve_for(alloc, context, names, first, condition, step, body)
         }
-        Stmt::Push(value) => {
-            Ok(Stmt::Push(check_output(alloc, context, names, context.pushes, value)?))
-        }
-        Stmt::Print(value) => {
-            Ok(Stmt::Print(check_output(alloc, context, names, context.prints, value)?))
-        }
-        Stmt::Println(value) => {
-            Ok(Stmt::Println(check_output(alloc, context, names, context.prints, value)?))
+        Stmt::Push(value) => { Ok(Stmt::Push(check_pushed(alloc, context, names, value)?)) }
+        Stmt::Print(value) => { Ok(Stmt::Print(check_printed(alloc, context, names, value)?)) }
+        Stmt::Println(value) => { Ok(Stmt::Println(check_printed(alloc, context, names, value)?)) }
+        Stmt::Placed(place, inner) => {
+            let resolved = resolve_stmt(alloc, context, names, start, inner);
+            let statement = placed(Some(*place), resolved)?;
+            accept_node(node::placed_of(alloc, *place, statement))
         }
     }
 }
@@ -225,20 +225,38 @@ fn resolve_condition(
     expression_rules::resolve_as(alloc, context, names, ValueType::Boolean, condition)
 }
 
-/// A number that is given away, where that may be.
-fn check_output(
+/// A number that is pushed, where that may be.
+fn check_pushed(
     alloc: Global,
     context: &Context,
     names: &TypedScope,
-    may: bool,
     value: &Expr,
 ) -> Result<Expr, LowerError>
     ensures { IsVerdict expr_view
-        (judged.given_resolved (context_of context.now) names.now may (expr_view value.now))
+        (judged.given_resolved (context_of context.now) names.now context.now.pushes
+        (expr_view value.now))
         result }
 {
-    if !may {
-        return Err(LowerError::TypeMismatch);
+    if !context.pushes {
+        return Err(LowerError::mismatch(Mismatch::NoOutput));
+    }
+    expression_rules::resolve_as(alloc, context, names, ValueType::Int, value)
+}
+
+/// A number that is printed, where that may be.
+fn check_printed(
+    alloc: Global,
+    context: &Context,
+    names: &TypedScope,
+    value: &Expr,
+) -> Result<Expr, LowerError>
+    ensures { IsVerdict expr_view
+        (judged.given_resolved (context_of context.now) names.now context.now.prints
+        (expr_view value.now))
+        result }
+{
+    if !context.prints {
+        return Err(LowerError::mismatch(Mismatch::NoPrinting));
     }
     expression_rules::resolve_as(alloc, context, names, ValueType::Int, value)
 }
@@ -298,7 +316,7 @@ fn assigned_type(operator: AssignOperator, kind: ValueType) -> Result<ValueType,
         | AssignOperator::Divide
         | AssignOperator::Remainder => {
             if !types::same_type(kind, ValueType::Int) {
-                return Err(LowerError::TypeMismatch);
+                return Err(LowerError::mismatch(Mismatch::Value(ValueType::Int, kind)));
             }
             Ok(kind)
         }
@@ -326,6 +344,7 @@ fn resolve_declared(
     Ok(Stmt::Declare(Variables {
         kind: resolved.written,
         variables,
+        place: declared.place,
     }))
 }
 
@@ -370,7 +389,8 @@ fn resolve_variable(
         ∷ names.old) }
 {
     if names.has_since(start, &variable.name) {
-        return Err(LowerError::TypeMismatch);
+        let twice = LowerError::mismatch(Mismatch::DeclaredTwice);
+        return Err(twice.or_at(variable.name.place()));
     }
     let initial = expression_rules::resolve_initial(
         alloc,

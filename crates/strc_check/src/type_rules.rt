@@ -64,9 +64,7 @@ fn array_type(number: i32) -> Result<ResolvedType, LowerError>
     ensures kind { IfOk result (λ r. r.kind ≡ Array) }
 {
     if number < 1 || number > LENGTH_LIMIT {
-        return Err(LowerError::ConstFault {
-            cause: Cause::Index,
-        });
+        return Err(LowerError::fault(Cause::Index));
     }
     Ok(ResolvedType {
         kind: ValueType::Array,

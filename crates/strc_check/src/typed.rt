@@ -7,6 +7,7 @@ ghost use Rattle.strc_check.specs.declared.types.ValueType.TheVariants.{Int};
 ghost use Rattle.strc_check.specs.Verdicts.{IsVerdict, typed_view};
 
 use crate::error::LowerError;
+use crate::site::Mismatch;
 use crate::types::{self, ValueType};
 use std::alloc::Global;
 use strc_base::name::Name;
@@ -35,7 +36,7 @@ pub fn expect_type(kind: ValueType, typed: Typed) -> Result<Expr, LowerError>
     ensures { IsVerdict expr_view (judged.expect_type kind (typed_view typed)) result }
 {
     if !types::same_type(typed.kind, kind) {
-        return Err(LowerError::TypeMismatch);
+        return Err(LowerError::mismatch(Mismatch::Value(kind, typed.kind)));
     }
     Ok(typed.value)
 }
@@ -55,7 +56,7 @@ pub fn peek(alloc: Global, pops: bool, index: Typed) -> Result<Typed, LowerError
     ensures { IsVerdict typed_view (judged.peek_typed pops (typed_view index)) result }
 {
     if !pops {
-        return Err(LowerError::TypeMismatch);
+        return Err(LowerError::mismatch(Mismatch::NoInput));
     }
     let index = expect_type(ValueType::Int, index)?;
     Ok(Typed {

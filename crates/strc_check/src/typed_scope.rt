@@ -8,7 +8,7 @@ use std::alloc::Global;
 use std::marker::Model;
 use strc_base::memory::NoMemory;
 use strc_base::name::Name;
-use strc_names::scope_map::ScopeMap;
+use strc_base::scope_map::ScopeMap;
 
 /// Names with the types of their variables, in the order in which they were declared. Contracts see
 /// the list of the names with their types, the innermost first. A look-up takes expected constant

@@ -6,6 +6,7 @@ ghost use Rattle.strc_check.specs.Verdicts.{IsVerdict, context_of};
 
 use crate::context::Context;
 use crate::error::LowerError;
+use crate::site::Mismatch;
 use crate::typed_scope::TypedScope;
 use crate::types::{self, ValueType};
 use strc_base::name::Name;
@@ -24,10 +25,10 @@ pub fn resolve_written(
         return Ok(kind);
     }
     match context.constants.value_of(name) {
-        Some(_) => Err(LowerError::TypeMismatch),
+        Some(_) => Err(LowerError::mismatch(Mismatch::ConstantWritten)),
         None => {
             let name = name.copy()?;
-            Err(LowerError::UnknownName { name })
+            Err(LowerError::unknown(name))
         }
     }
 }
@@ -43,11 +44,11 @@ pub fn resolve_stepped(
         result }
 {
     if context.constants_only {
-        return Err(LowerError::TypeMismatch);
+        return Err(LowerError::mismatch(Mismatch::VariableInConstant));
     }
     let kind = resolve_written(context, names, name)?;
     if !types::same_type(kind, ValueType::Int) {
-        return Err(LowerError::TypeMismatch);
+        return Err(LowerError::mismatch(Mismatch::Value(ValueType::Int, kind)));
     }
     let name = name.copy()?;
     Ok(name)
@@ -60,11 +61,11 @@ pub fn resolve_array(context: &Context, names: &TypedScope, name: &Name) -> Resu
         result }
 {
     if context.constants_only {
-        return Err(LowerError::TypeMismatch);
+        return Err(LowerError::mismatch(Mismatch::VariableInConstant));
     }
     let kind = resolve_written(context, names, name)?;
     if !types::is_array(kind) {
-        return Err(LowerError::TypeMismatch);
+        return Err(LowerError::mismatch(Mismatch::NoArray));
     }
     let name = name.copy()?;
     Ok(name)

@@ -4,16 +4,16 @@ use Rattle.std.specs.Prelude.{Err, String, string_bytes, None, unwrap_or}
 use Rattle.std.specs.declared.alloc.Global.{Global}
 use Rattle.std.specs.Option.{option_map}
 use Rattle.strc_input.specs.Input.{WritesNumbers}
-use Rattle.strc_outcome.specs.declared.outcome.Outcome.{Outcome}
-use Rattle.strc_outcome.specs.declared.refusal.RunRefusal.{RunRefusal}
-use Rattle.strc_outcome.specs.declared.refusal.RunRefusal.TheVariants.{BadWorkers}
+use Rattle.strc_refusal.specs.declared.outcome.Outcome.{Outcome}
+use Rattle.strc_refusal.specs.declared.run_refusal.RunRefusal.{RunRefusal}
+use Rattle.strc_refusal.specs.declared.run_refusal.RunRefusal.TheVariants.{BadWorkers}
 use Rattle.strc_stream.specs.Instances.{Stream}
 use Rattle.strc_fuse.specs.Units.{round_units}
-use Rattle.strc_picture.specs.Parts.{round_shares, startup_shares}
-use Rattle.strc_picture.specs.Pictures.{picture_text}
-use Rattle.strc_picture.specs.Stages.{plan_picture_text}
+use Rattle.strc_output.specs.Parts.{round_shares, startup_shares}
+use Rattle.strc_output.specs.Pictures.{picture_text}
+use Rattle.strc_output.specs.Stages.{plan_picture_text}
 use Rattle.strc_stage.specs.Plans.{PlanParts, graph_of}
-use Rattle.strc_cut.specs.Bounds.{stage_bounds}
+use Rattle.strc_stage.specs.Bounds.{stage_bounds}
 use Rattle.strc_run.specs.Accepts.{Accepts}
 use Rattle.strc_run.specs.Choices.{Choice}
 use Rattle.strc_run.specs.Plans.{IsPlanOf}

@@ -2,7 +2,7 @@
 use Rattle.std.specs.Prelude.{◌≡◌, ℕ, List, Result, Ok, Err}
 use Rattle.strc_stage.specs.Plans.{PlanParts}
 use Rattle.strc_refusal.specs.declared.refusal.Refusal.TheVariants.{NoMemory}
-use Rattle.strc_outcome.specs.declared.refusal.RunRefusal.TheVariants.{BadWorkers}
+use Rattle.strc_refusal.specs.declared.run_refusal.RunRefusal.TheVariants.{BadWorkers}
 use Rattle.strc_run.specs.Choices.{Choice}
 use Rattle.strc_run.specs.Plans.{IsPlanOf}
 use Rattle.strc_run.specs.Refuses.{IsTrueOf}

@@ -10,9 +10,9 @@ use Rattle.strc_cli.specs.declared.answer.Answer.TheVariants as answer
 use Rattle.strc_output.specs.declared.stop.Stop.{Stop}
 use Rattle.strc_output.specs.declared.stop.Stop.TheVariants as stop
 use Rattle.strc_command.specs.declared.line.Command.{Command}
-use Rattle.strc_outcome.specs.declared.outcome.Outcome.TheVariants as outcome
-use Rattle.strc_outcome.specs.declared.refusal.RunRefusal.{RunRefusal}
-use Rattle.strc_outcome.specs.declared.refusal.RunRefusal.TheVariants as unrun
+use Rattle.strc_refusal.specs.declared.outcome.Outcome.TheVariants as outcome
+use Rattle.strc_refusal.specs.declared.run_refusal.RunRefusal.{RunRefusal}
+use Rattle.strc_refusal.specs.declared.run_refusal.RunRefusal.TheVariants as unrun
 use Rattle.strc_refusal.specs.declared.refusal.Refusal.{Refusal}
 use Rattle.strc_refusal.specs.declared.refusal.Refusal.TheVariants as refusal
 use Rattle.strc_cli.specs.Answering.{IsAnswered}

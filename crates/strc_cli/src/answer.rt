@@ -18,13 +18,14 @@ use strc_command::words::{BARE_FUSE, BARE_WAYS, BARE_WORKERS};
 use strc_input::device::Source;
 use strc_input::input::{ReadStop, read_numbers};
 use strc_output::stop::Stop;
-use strc_run::compile::{Plan, compile};
+use strc_refusal::refused::Refused;
+use strc_ring::Gate;
+use strc_run::compile::{Plan, compile_or_where};
 use strc_run::laws::plans_answer_texts;
 use strc_run::options::Options;
 use strc_run::refusal::Refusal;
 use strc_run::run::{Outcome, RunRefusal, reads_input, run};
 use strc_stages::Stage;
-use strc_worker::Gate;
 
 /// What a command asks of an accepted text.
 #[derive(Drop)]
@@ -56,11 +57,11 @@ pub fn answer_to<G: Gate<Stage>, R: Threads + Wait + Sync, I: Source>(
     ensures unread { (input.new ≡ input.old) ⊎ ReadsInput text.now command.now }
 {
     let Ok(options) = options_of(alloc, command) else {
-        return Ok(Err(Stop::Refused(Refusal::NoMemory)));
+        return Ok(Err(Stop::Refused(Refused::from(Refusal::NoMemory))));
     };
-    let plan = match compile(alloc, text, &options) {
+    let plan = match compile_or_where(alloc, text, &options) {
         Ok(plan) => plan,
-        Err(refusal) => return Ok(Err(Stop::Refused(refusal))),
+        Err(refused) => return Ok(Err(Stop::Refused(refused))),
     };
     match command {
         Command::Run {

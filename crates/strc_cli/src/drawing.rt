@@ -7,14 +7,15 @@ ghost use Rattle.strc_cli.specs.Drawing.{AreStagesDrawn, IsDrawn};
 
 use crate::answer::Answer;
 use std::alloc::{AllocError, Global};
-use strc_cut::bounds::stage_bounds;
+use strc_output::parts::{round_shares, startup_shares};
+use strc_output::picture::{picture, plan_picture};
 use strc_output::stop::Stop;
-use strc_picture::parts::{round_shares, startup_shares};
-use strc_picture::picture::{picture, plan_picture};
+use strc_refusal::refused::Refused;
 use strc_run::compile::{Plan, stream_of};
 use strc_run::options::Options;
 use strc_run::refusal::Refusal;
 use strc_run::run::{RunRefusal, WORKER_LIMIT};
+use strc_stage::bounds::stage_bounds;
 
 /// The picture of the flat graph of a text's plan.
 pub(crate) fn drawn(
@@ -27,7 +28,7 @@ pub(crate) fn drawn(
 {
     let stream = match stream_of(alloc, text, options) {
         Ok(stream) => stream,
-        Err(refusal) => return Err(Stop::Refused(refusal)),
+        Err(refusal) => return Err(Stop::Refused(Refused::from(refusal))),
     };
     match picture(
         alloc,
@@ -38,7 +39,7 @@ pub(crate) fn drawn(
         plan.sizes(),
     ) {
         Ok(picture) => Ok(Answer::Drawn(picture)),
-        Err(_) => Err(Stop::Refused(Refusal::NoMemory)),
+        Err(_) => Err(Stop::Refused(Refused::from(Refusal::NoMemory))),
     }
 }
 
@@ -52,7 +53,7 @@ pub(crate) fn stages_drawn(alloc: Global, plan: &Plan, workers: u32) -> Result<A
     }
     match stages_picture(alloc, plan, workers) {
         Ok(picture) => Ok(Answer::Drawn(picture)),
-        Err(_) => Err(Stop::Refused(Refusal::NoMemory)),
+        Err(_) => Err(Stop::Refused(Refused::from(Refusal::NoMemory))),
     }
 }
 

@@ -15,10 +15,10 @@ use strc_input::device::{Sink, Source};
 use strc_output::outcome::outcome_text;
 use strc_output::output::{check_text, plan_text, stop_text};
 use strc_output::stop::Stop;
+use strc_ring::Gate;
 use strc_run::refusal::Refusal;
 use strc_run::run::{Outcome, RunRefusal};
 use strc_stages::Stage;
-use strc_worker::Gate;
 use thiserror::Error;
 
 /// How a call of `execute` went: what the program's exit status tells.
@@ -116,7 +116,10 @@ fn memory_line(answered: &Result<Answer, Stop>) -> Option<&'static [u8]>
         × (spec.answer_status answered.now ≡ Status.NoMemory)) }
 {
     match answered {
-        Err(Stop::Refused(Refusal::NoMemory)) => Some(b"refused E25 NoMemory\n"),
+        Err(Stop::Refused(refused)) => match refused.refusal() {
+            Refusal::NoMemory => Some(b"refused E25 NoMemory\n"),
+            _ => None,
+        },
         Err(Stop::NotRun(RunRefusal::NoMemory)) => Some(b"refused S3 NoMemory\n"),
         _ => None,
     }
@@ -145,8 +148,10 @@ fn answer_status(answered: &Result<Answer, Stop>) -> Status
         Ok(Answer::Checked { .. }) => Status::Done,
         Ok(Answer::Planned(_)) => Status::Done,
         Ok(Answer::Drawn(_)) => Status::Done,
-        Err(Stop::Refused(Refusal::NoMemory)) => Status::NoMemory,
-        Err(Stop::Refused(_)) => Status::Refused,
+        Err(Stop::Refused(refused)) => match refused.refusal() {
+            Refusal::NoMemory => Status::NoMemory,
+            _ => Status::Refused,
+        },
         Err(Stop::BadInput { .. }) => Status::Refused,
         Err(Stop::NotRun(RunRefusal::NoMemory)) => Status::NoMemory,
         Err(Stop::NotRun(RunRefusal::NoWorker)) => Status::NoMemory,

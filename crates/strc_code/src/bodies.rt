@@ -201,7 +201,7 @@ fn stmt_prints(statement: &Stmt) -> bool
             false
         }
         Stmt::Print(_) | Stmt::Println(_) => true,
-        Stmt::If(_, body) | Stmt::While(_, body) => stmt_prints(body),
+        Stmt::If(_, body) | Stmt::While(_, body) | Stmt::Placed(_, body) => stmt_prints(body),
         Stmt::IfElse(_, chosen, other) => stmt_prints(chosen) || stmt_prints(other),
         Stmt::For(first, _, step, body) => {
             stmt_prints(first) || stmt_prints(step) || stmt_prints(body)

@@ -8,7 +8,7 @@ ghost use Rattle.strc_code.specs.Code.{code_of};
 ghost use Rattle.strc_code.specs.Flat.{IsFlat};
 ghost use Rattle.strc_code.specs.Lowered.{limits_of, first_routine};
 ghost use Rattle.strc_semantics.specs.declared.body.Body.TheVariants as bodied;
-ghost use Rattle.strc_writes.specs.Stateless as writes;
+ghost use Rattle.strc_interval.specs.Stateless as writes;
 
 use crate::bodies;
 use crate::limits::FiringLimits;

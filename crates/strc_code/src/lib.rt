@@ -3,7 +3,7 @@
 // The theorem to rely on: each routine of a `Code` is the code that its filter's tree is lowered
 // to, and its flat form does the same.
 // Stands on strc_semantics, whose filters its codes are, on strc_syntax, whose trees they keep, on
-// strc_writes, which tells whether a filter's work writes a field, and on strc_base.
+// strc_interval, which tells whether a filter's work writes a field, and on strc_base.
 #![tactic(auto)]
 
 pub mod bodies;

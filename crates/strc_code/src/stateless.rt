@@ -2,14 +2,14 @@
 
 ghost use Rattle.std.specs.Prelude.{◌≡◌, IfOk};
 ghost use Rattle.strc_semantics.specs.Filters.{filter_of};
-ghost use Rattle.strc_writes.specs.Stateless as spec;
+ghost use Rattle.strc_interval.specs.Stateless as spec;
 
 use crate::bodies::{block_of, block_prints, has_prework};
 use std::alloc::Global;
 use strc_base::memory::NoMemory;
+use strc_interval::field_writes::writes_field;
 use strc_semantics::body::Body;
 use strc_syntax::tree::FilterTree;
-use strc_writes::writes::writes_field;
 
 /// Whether a filter has no prework, doesn't print, and writes no field in its work. `NoMemory`
 /// where there is none for the names in it.

@@ -20,3 +20,4 @@ pub mod Stopping
 pub mod Joining
 pub mod Driving
 pub mod Rows
+pub mod Loads

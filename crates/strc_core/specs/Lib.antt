@@ -8,3 +8,4 @@ pub mod Moves
 pub mod Laws
 pub mod Driving
 pub mod Rows
+pub mod Parcels

@@ -1,12 +1,19 @@
 // Takes: what a stage does with what a parcel carries.
-// Gives: a ring of stages and a collector as a machine over the events take and give, and laws
-// about its states that hold whatever stages compute. A caller relies on `events_keep_states`.
-// Each law is the contract of a public function with an empty body; `specs/Laws.antt` states them.
-// Stands on std alone.
+// Gives: a ring of stages and a collector as a machine over the events take and give, laws about
+// its states that hold whatever stages compute, and the parcels and actors of such rings in code:
+// `Parcel`, `Stop`, and the trait `Actor`. A caller relies on `events_keep_states`, and on each
+// method of a parcel leaving exactly the value that its clause names. Each law is the contract of a
+// public function with an empty body; `specs/Laws.antt` states them.
+// Stands on strc_semantics, whose causes and words parcels carry.
 #![tactic(auto)]
 
+mod actor;
 mod event;
+mod lists;
+mod making;
+mod parcel;
 pub mod parts;
+mod stop;
 
 ghost use Rattle.strc_core.specs.Laws.{FirstCoreIsState, EventsKeepStates, EventsAreAllowed};
 ghost use Rattle.strc_core.specs.Laws.{EventsAreCounted, EventsEnd, ParcelsAreKept, ListsAreInStep};
@@ -121,3 +128,7 @@ pub fn done_at_first()
 pub fn emptied_parcels()
     ensures { EmptiedRow }
 {}
+
+pub use actor::Actor;
+pub use parcel::Parcel;
+pub use stop::Stop;

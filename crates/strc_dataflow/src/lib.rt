@@ -1,11 +1,18 @@
 // Takes: what one firing of each kind of node means, a stream as a tree, counts of firings and
 // orders of them.
 // Gives: definitions that other crates cite (nodes, runs, the stream equations, orders, the answer
-// of a run), and laws about them. A caller relies on `run_gives_answer`: the run of each order that
-// is valid by counts gives the answer of the stream equations. Each law is the contract of a public
-// function with an empty body; `specs/Laws.antt` states them, `specs/Rows.antt` has worked rows.
+// of a run), and laws about them, whatever nodes compute: on whole runs (this file), on rounds that
+// are cut into stages (`staging_laws`), on firings that are exchanged, fused or split
+// (`rounds_laws`), and on graphs that go on from a state (`restart_laws`). A caller relies on
+// `run_gives_answer`, `chain_gives_answer`, `fission_keeps_runs` and `restarted_chains`. Each law
+// is the contract of a public function with an empty body; files `*Laws.antt` of specs/ state them,
+// files `*Rows.antt` have worked rows.
 // Stands on std alone.
 #![tactic(auto)]
+
+pub mod restart_laws;
+pub mod rounds_laws;
+pub mod staging_laws;
 
 ghost use Rattle.strc_dataflow.specs.Laws.{AnswerIsOne, AnySolution, ChainRunsInOrder};
 ghost use Rattle.strc_dataflow.specs.Laws.{FillsAreByCounts, OnlyPortsMatter, OrderIsValidAgain};

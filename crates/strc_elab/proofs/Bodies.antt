@@ -14,10 +14,10 @@ use Rattle.strc_syntax.proofs.Blocks.{stmt_view-Block, block_view-drop}
 use Rattle.strc_check.proofs.TypedGrowth.{StandsOn, stands_on_itself, stands_on_after, drop_inner}
 use Rattle.strc_check.proofs.TypedGrowth.{drop_own}
 use Rattle.strc_elab.specs.Elaboration.{Setting, Progress, inside, stmt_run, stmts_run}
-use Rattle.strc_scope.specs.Answers.{IsRefusal}
+use Rattle.strc_statements.specs.Answers.{IsRefusal}
 use Rattle.strc_elab.specs.Loops.{for_looped, names_after_block}
-use Rattle.strc_scope.specs.declared.error.ElabError.{ElabError}
-use Rattle.strc_weights.proofs.Refusals.{first_refused}
+use Rattle.strc_statements.specs.declared.error.ElabError.{ElabError}
+use Rattle.strc_statements.proofs.Refusals.{first_refused}
 
 -- ---- names
 

@@ -17,10 +17,10 @@ use Rattle.strc_elab.specs.Elaboration.{Setting, Progress, Elaborated, Found, ch
 use Rattle.strc_elab.specs.Elaboration.{unnamed_found, named_found, child_added, arguments_given}
 use Rattle.strc_elab.specs.Elaboration.{where_kept}
 use Rattle.strc_check.specs.Typing.{TypedNames}
-use Rattle.strc_scope.specs.Texts.{Constants, FilterText, CompositeText, listed, parameters_of}
-use Rattle.strc_scope.specs.Texts.{is_doubled, text_of}
-use Rattle.strc_scope.specs.declared.error.ElabError.{ElabError}
-use Rattle.strc_scope.specs.declared.error.ElabError.TheVariants as refused
+use Rattle.strc_statements.specs.Texts.{Constants, FilterText, CompositeText, listed, parameters_of}
+use Rattle.strc_statements.specs.Texts.{is_doubled, text_of}
+use Rattle.strc_statements.specs.declared.error.ElabError.{ElabError}
+use Rattle.strc_statements.specs.declared.error.ElabErrorKind.TheVariants as refused
 use Rattle.strc_base.specs.Results.{result_and_then}
 use Rattle.strc_semantics.specs.Firing as firing
 use Rattle.strc_syntax.specs.declared.tree.Role.TheVariants as roles

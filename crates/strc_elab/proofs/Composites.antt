@@ -10,22 +10,22 @@ use Rattle.strc_stream.specs.Instances.{in_a_row}
 use Rattle.strc_stream.specs.Types.{input_of, output_of}
 use Rattle.strc_stream.specs.View.{stream_view}
 use Rattle.strc_stream.specs.declared.stream.Stream.{Stream}
-use Rattle.strc_scope.specs.Answers.{IsRefusal}
-use Rattle.strc_scope.specs.declared.error.ElabError.{ElabError}
-use Rattle.strc_scope.specs.declared.error.ElabError.TheVariants as refused
+use Rattle.strc_statements.specs.Answers.{IsRefusal}
+use Rattle.strc_statements.specs.declared.error.ElabError.{ElabError}
+use Rattle.strc_statements.specs.declared.error.ElabErrorKind.TheVariants as refused
 use Rattle.strc_elab.specs.Answering.{join_view, part_view}
-use Rattle.strc_weights.specs.Splits.{split_view}
+use Rattle.strc_statements.specs.Splits.{split_view}
 use Rattle.strc_elab.specs.Elaboration as spec
 use Rattle.strc_elab.specs.Elaboration.{where_kept, loop_assembly, splitjoin_assembly}
-use Rattle.strc_declarations.specs.Written.{is_as_written}
-use Rattle.strc_weights.specs.Sides.{any_side, inputs_in, outputs_in}
+use Rattle.strc_statements.specs.Written.{is_as_written}
+use Rattle.strc_statements.specs.Sides.{any_side, inputs_in, outputs_in}
 use Rattle.strc_elab.specs.Assembly.{elaborated_as}
-use Rattle.strc_weights.specs.Weights as weights
-use Rattle.strc_weights.specs.Weights.{weighted, loop_weights, loop_splitter, input_written}
-use Rattle.strc_weights.specs.Weights.{output_written, split_dealt, join_dealt}
-use Rattle.strc_weights.specs.declared.weights.Split.{Split}
-use Rattle.strc_weights.proofs.Refusals.{first_refused, second_refused, both_done}
-use Rattle.strc_weights.proofs.Refusals.{then_done}
+use Rattle.strc_statements.specs.Weights as weights
+use Rattle.strc_statements.specs.Weights.{weighted, loop_weights, loop_splitter, input_written}
+use Rattle.strc_statements.specs.Weights.{output_written, split_dealt, join_dealt}
+use Rattle.strc_statements.specs.declared.weights.Split.{Split}
+use Rattle.strc_statements.proofs.Refusals.{first_refused, second_refused, both_done}
+use Rattle.strc_statements.proofs.Refusals.{then_done, refused_same}
 
 -- split-joins
 pub splitjoin_done : (declaration : ℕ) (written : Option StreamType) (types : List StreamType)
@@ -59,6 +59,25 @@ splitjoin_done declaration written (first ∷ rest) split join p s j splitter jo
         (refused.TypeMismatch declaration)
         (Ok (elaborated_as (record { input = i; output = o })
         (instances.SplitJoin splitter (in_a_row p.children) joiner) p))
+
+-- whose `join` has weights that aren't allowed
+pub joins_refused : (declaration : ℕ) (written : Option StreamType) (types : List StreamType)
+    (split : Option weights.Split) (join : Option (List ℤ)) (p : spec.Progress) (s : weights.Split)
+    (j : List ℤ) (splitter : Option SplitterCode) (e : ElabError)
+    → (length types ≡ 0 → ⊥) → split ≡ Some s → join ≡ Some j
+    → split_dealt declaration s (inputs_in p.types) ≡ Ok splitter
+    → IsRefusal (join_dealt declaration j (outputs_in p.types)) e
+    → IsRefusal (splitjoin_assembly declaration written types split join p) e
+joins_refused declaration written [] split join p s j splitter e some split_is join_is splits h =
+    absurd (some refl)
+joins_refused declaration written (first ∷ rest) split join p s j splitter e some split_is join_is
+    splits h =
+    refused_same (splitjoin_assembly declaration written (first ∷ rest) (Some s) (Some j) p)
+    (splitjoin_assembly declaration written (first ∷ rest) split join p) e
+    (ap (λ x. splitjoin_assembly declaration written (first ∷ rest) x join p) split_is
+    ∙ ap (λ x. splitjoin_assembly declaration written (first ∷ rest) (Some s) x p) join_is)
+    (second_refused (split_dealt declaration s (inputs_in p.types)) _ splitter e splits
+    (first_refused (join_dealt declaration j (outputs_in p.types)) _ e h))
 
 -- feedback loops
 

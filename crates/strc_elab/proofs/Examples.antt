@@ -9,15 +9,15 @@ use Rattle.strc_syntax.specs.declared.tree.CompositeKind.TheVariants.{Pipeline}
 use Rattle.strc_semantics.specs.Firing.{turn_limit}
 use Rattle.strc_check.specs.Typing.{TypedNames}
 use Rattle.strc_semantics.specs.declared.fault.Cause.TheVariants.{Turns}
-use Rattle.strc_scope.specs.Statements.{computed}
+use Rattle.strc_statements.specs.Statements.{computed}
 use Rattle.strc_elab.specs.Elaboration.{Setting, Progress, condition_evaluated, inside, looped}
 use Rattle.strc_elab.specs.Elaboration.{stmt_run, stmts_run, stream_elaborated, initial_progress}
 use Rattle.strc_elab.specs.Elaboration.{composite_assembly, level_limit, filter_limit}
 use Rattle.strc_stream.specs.Instances.{Stream}
 use Rattle.strc_elab.specs.Examples.{RecursionRow, EndlessRow, LoopRow, EndlessLoopRow}
 use Rattle.strc_elab.specs.Examples.{endless_loop, both_added, block}
-use Rattle.strc_scope.specs.declared.error.ElabError.{ElabError}
-use Rattle.strc_scope.specs.declared.error.ElabError.TheVariants.{ConstFault}
+use Rattle.strc_statements.specs.declared.error.ElabError.{ElabError}
+use Rattle.strc_statements.specs.declared.error.ElabErrorKind.TheVariants.{ConstFault}
 
 pub recursion_is : RecursionRow
 unfolding level_limit filter_limit int_wrap

@@ -3,7 +3,7 @@ use Rattle.std.proofs.Common.{◌≡◌, ℕ, zero, suc, ◌-◌, List, [], refl
 use Rattle.strc_syntax.specs.Tree.{Declaration}
 use Rattle.strc_elab.specs.Elaboration.{Totals, text_elaborated, stream_elaborated, main_elaborated}
 use Rattle.strc_elab.specs.Elaboration.{level_limit}
-use Rattle.strc_scope.specs.Texts.{Constants, Place, Text, text_of}
+use Rattle.strc_statements.specs.Texts.{Constants, Place, Text, text_of}
 
 -- a stream that may have a level is what its text makes of the streams of the levels below
 pub stream_elaborated-level : (program : List Declaration) (levels : ℕ) (place : Place)

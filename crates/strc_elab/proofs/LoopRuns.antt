@@ -6,12 +6,12 @@ use Rattle.strc_semantics.specs.Arithmetic.{is_true}
 use Rattle.strc_semantics.specs.Firing as firing
 use Rattle.strc_semantics.specs.Firing.{turn_limit}
 use Rattle.strc_semantics.specs.declared.fault.Cause.TheVariants as causes
-use Rattle.strc_scope.specs.Statements.{computed}
+use Rattle.strc_statements.specs.Statements.{computed}
 use Rattle.strc_elab.specs.Elaboration.{Progress, turned, looped}
-use Rattle.strc_scope.specs.Answers.{IsRefusal}
-use Rattle.strc_scope.specs.declared.error.ElabError.{ElabError}
-use Rattle.strc_scope.specs.declared.error.ElabError.TheVariants as refused
-use Rattle.strc_weights.proofs.Refusals.{refused_same, first_refused, second_refused}
+use Rattle.strc_statements.specs.Answers.{IsRefusal}
+use Rattle.strc_statements.specs.declared.error.ElabError.{ElabError}
+use Rattle.strc_statements.specs.declared.error.ElabErrorKind.TheVariants as refused
+use Rattle.strc_statements.proofs.Refusals.{refused_same, first_refused, second_refused}
 use Rattle.strc_semantics.specs.declared.fault.TheConstants.{TURN_LIMIT}
 use Rattle.strc_elab.proofs.Turns.{turn_limit_is}
 

@@ -12,20 +12,21 @@ use Rattle.strc_stream.specs.Instances.{Stream, in_a_row}
 use Rattle.strc_stream.specs.Instances as instance
 use Rattle.strc_stream.specs.Types.{IsWellTyped, HasFirst, PassesItems, IsSplit, IsJoined, input_of}
 use Rattle.strc_stream.specs.Types.{output_of}
-use Rattle.strc_scope.specs.declared.error.ElabError.TheVariants as refused
+use Rattle.strc_statements.specs.declared.error.ElabErrorKind.TheVariants as refused
 use Rattle.strc_elab.specs.Elaboration.{Progress, Elaborated, as_written}
-use Rattle.strc_declarations.specs.Written.{is_as_written}
+use Rattle.strc_statements.specs.Written.{is_as_written}
 use Rattle.strc_elab.specs.Elaboration.{pipeline_assembly, splitjoin_assembly, loop_assembly}
 use Rattle.strc_elab.specs.Elaboration.{composite_assembly}
-use Rattle.strc_weights.specs.Sides.{last_given, inputs_in, outputs_in, any_side}
+use Rattle.strc_statements.specs.Sides.{last_given, inputs_in, outputs_in, any_side}
 use Rattle.strc_elab.specs.Sound.{IsInstance}
-use Rattle.strc_weights.specs.Weights.{Split, weighted, split_dealt, join_dealt, input_written}
-use Rattle.strc_weights.specs.Weights.{output_written, loop_weights, loop_splitter}
+use Rattle.strc_statements.specs.Weights.{Split, weighted, split_dealt, join_dealt, input_written}
+use Rattle.strc_statements.specs.Weights.{output_written, loop_weights, loop_splitter}
 use Rattle.strc_elab.proofs.Steps.{then_known, kept_holds}
 use Rattle.strc_elab.proofs.SoundRows.{IsSoundStream, AreSound, InARow, append_instances}
 use Rattle.strc_elab.proofs.SoundRows.{row_instances, row_typed, row_gives, each_typed, inputs_are}
 use Rattle.strc_elab.proofs.SoundRows.{outputs_are}
-use Rattle.strc_weights.proofs.WeightsMeet.{split_is, join_is, loop_joins, loop_splits, weighted_is}
+use Rattle.strc_statements.proofs.WeightsMeet.{split_is, join_is, loop_joins, loop_splits}
+use Rattle.strc_statements.proofs.WeightsMeet.{weighted_is}
 
 -- body or loop of a feedback loop, where there is one
 abbrev pub IsPart : Option Stream → Type 0

@@ -13,13 +13,13 @@ use Rattle.strc_check.specs.Typing.{TypedNames}
 use Rattle.strc_check.specs.declared.types.ValueType.TheVariants as value
 use Rattle.strc_stream.specs.Instances.{Stream}
 use Rattle.strc_stream.specs.Types.{is_int}
-use Rattle.strc_scope.specs.declared.error.ElabError.TheVariants as refused
-use Rattle.strc_scope.specs.Statements.{eval_checked}
-use Rattle.strc_scope.specs.Texts.{Place, Text}
+use Rattle.strc_statements.specs.declared.error.ElabErrorKind.TheVariants as refused
+use Rattle.strc_statements.specs.Statements.{eval_checked}
+use Rattle.strc_statements.specs.Texts.{Place, Text}
 use Rattle.strc_elab.specs.Elaboration.{Totals, Elaborated, Setting, Progress, child_found}
 use Rattle.strc_elab.specs.Elaboration.{child_run}
 use Rattle.strc_elab.specs.Elaboration.{child_added, may_add, may_have, may_split}
-use Rattle.strc_weights.specs.Sides.{passes_items}
+use Rattle.strc_statements.specs.Sides.{passes_items}
 use Rattle.strc_elab.specs.Elaboration.{may_join, is_loop, splitter_evaluated, values_evaluated}
 use Rattle.strc_elab.specs.Elaboration.{composed}
 use Rattle.strc_elab.proofs.Keeping.{Keeps}

@@ -12,8 +12,8 @@ use Rattle.strc_stream.specs.Types.{IsWellTyped, AreWellTyped, AreEach, input_of
 use Rattle.strc_stream.specs.Types.{output_of}
 use Rattle.strc_stream.specs.Types.{inputs_of, outputs_of, last_output}
 use Rattle.strc_elab.specs.Elaboration.{follows}
-use Rattle.strc_declarations.specs.Written.{same_item}
-use Rattle.strc_weights.specs.Sides.{last_given, inputs_in, outputs_in}
+use Rattle.strc_statements.specs.Written.{same_item}
+use Rattle.strc_statements.specs.Sides.{last_given, inputs_in, outputs_in}
 use Rattle.strc_elab.specs.Sound.{IsInstance}
 
 -- what is made: a well-typed stream of instances, with its types

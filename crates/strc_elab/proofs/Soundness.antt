@@ -16,33 +16,34 @@ use Rattle.strc_semantics.specs.declared.fault.Cause.{Cause}
 use Rattle.strc_check.specs.Resolution.{filter_resolved}
 use Rattle.strc_check.specs.declared.error.LowerError.{LowerError}
 use Rattle.strc_check.proofs.Resolving.{resolved_types}
-use Rattle.strc_scope.specs.declared.error.ElabError.{ElabError}
-use Rattle.strc_scope.specs.declared.error.ElabError.TheVariants as refused
-use Rattle.strc_scope.specs.Statements.{ruled}
-use Rattle.strc_scope.specs.Texts.{Place, Text, FilterText, CompositeText, IdentityText, ReaderText}
-use Rattle.strc_scope.specs.Texts.{WriterText, text_of, parameters_of, declared_from}
+use Rattle.strc_statements.specs.declared.error.ElabError.{ElabError}
+use Rattle.strc_statements.specs.declared.error.ElabErrorKind.TheVariants as refused
+use Rattle.strc_statements.specs.Statements.{ruled}
+use Rattle.strc_statements.specs.Texts.{Place, Text, FilterText, CompositeText, IdentityText}
+use Rattle.strc_statements.specs.Texts.{ReaderText}
+use Rattle.strc_statements.specs.Texts.{WriterText, text_of, parameters_of, declared_from}
 use Rattle.strc_stream.specs.Flattening.{nodes_of}
 use Rattle.strc_stream.specs.Instances.{Stream}
 use Rattle.strc_stream.specs.Instances as instance
 use Rattle.strc_stream.specs.Types.{IsWellTyped}
 use Rattle.strc_elab.specs.Elaboration.{filter_limit, Totals, Elaborated, Setting, Progress}
 use Rattle.strc_elab.specs.Elaboration.{stmts_run, started_as, instance_of}
-use Rattle.strc_declarations.specs.Written.{same_item}
+use Rattle.strc_statements.specs.Written.{same_item}
 use Rattle.strc_elab.specs.Elaboration.{initial_progress, as_written, pipeline_assembly}
-use Rattle.strc_declarations.specs.Written.{is_as_written}
+use Rattle.strc_statements.specs.Written.{is_as_written}
 use Rattle.strc_elab.specs.Elaboration.{splitjoin_assembly, loop_assembly, composite_assembly}
-use Rattle.strc_weights.specs.Sides.{inputs_in}
+use Rattle.strc_statements.specs.Sides.{inputs_in}
 use Rattle.strc_elab.specs.Elaboration.{composite_elaborated, given_elaborated}
-use Rattle.strc_weights.specs.Sides.{outputs_in}
+use Rattle.strc_statements.specs.Sides.{outputs_in}
 use Rattle.strc_elab.specs.Elaboration.{text_elaborated, stream_elaborated, level_limit}
-use Rattle.strc_declarations.specs.MainStreams.{types_of}
-use Rattle.strc_declarations.specs.MainStreams.{can_be_main, mains_from, only_main, named_main}
-use Rattle.strc_declarations.specs.MainStreams.{main_of}
+use Rattle.strc_statements.specs.MainStreams.{types_of}
+use Rattle.strc_statements.specs.MainStreams.{can_be_main, mains_from, only_main, named_main}
+use Rattle.strc_statements.specs.MainStreams.{main_of}
 use Rattle.strc_elab.specs.Elaboration.{main_elaborated, elaborated}
-use Rattle.strc_declarations.specs.MainStreams.{not_doubled, doubled_from}
+use Rattle.strc_statements.specs.MainStreams.{not_doubled, doubled_from}
 use Rattle.strc_elab.specs.Sound.{IsInstance, IsElaborated}
-use Rattle.strc_weights.specs.Weights.{Split, weighted, split_dealt, join_dealt, input_written}
-use Rattle.strc_weights.specs.Weights.{output_written, loop_weights, loop_splitter}
+use Rattle.strc_statements.specs.Weights.{Split, weighted, split_dealt, join_dealt, input_written}
+use Rattle.strc_statements.specs.Weights.{output_written, loop_weights, loop_splitter}
 use Rattle.strc_elab.proofs.Keeping.{stmts_kept}
 use Rattle.strc_elab.proofs.SoundBodies.{MakesSound, keeps_sound}
 use Rattle.strc_elab.proofs.SoundAssembly.{IsSound, IsSoundlyElaborated, composite_sound}

@@ -3,7 +3,7 @@ use Rattle.std.proofs.Common.{◌≡◌, suc, ◌-◌, ◌≤◌, List, [], ◌�
 use Rattle.std.proofs.Common.{refl, ap, ◌∙◌, arith}
 use Rattle.strc_syntax.specs.declared.tree.StreamType.{StreamType}
 use Rattle.strc_elab.specs.Elaboration.{follows}
-use Rattle.strc_declarations.specs.Written.{same_item}
+use Rattle.strc_statements.specs.Written.{same_item}
 
 -- one more takes what the last one gives
 pub follows_last : (types : List StreamType) (next other : StreamType) → 1 ≤ length types

@@ -9,9 +9,9 @@ use Rattle.strc_syntax.specs.declared.tree.Expr.{Expr}
 use Rattle.strc_semantics.specs.Firing.{Store}
 use Rattle.strc_check.specs.Typing.{TypedNames}
 use Rattle.strc_check.specs.declared.types.ValueType.TheVariants as kind
-use Rattle.strc_scope.specs.Statements.{eval_checked}
-use Rattle.strc_scope.specs.Texts.{Constants}
-use Rattle.strc_scope.specs.declared.error.ElabError.{ElabError}
+use Rattle.strc_statements.specs.Statements.{eval_checked}
+use Rattle.strc_statements.specs.Texts.{Constants}
+use Rattle.strc_statements.specs.declared.error.ElabError.{ElabError}
 use Rattle.strc_elab.specs.Elaboration.{Setting, values_evaluated, arguments_given}
 
 module _ (setting : Setting) (names : TypedNames) (before after : Store) (value : ℤ) where

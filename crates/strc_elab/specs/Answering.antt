@@ -4,17 +4,17 @@ use Rattle.std.specs.Option.{option_map}
 use Rattle.std.specs.declared.alloc.Global.{Global}
 use Rattle.strc_semantics.specs.Firing as firing
 use Rattle.strc_elab.specs.Elaboration as spec
-use Rattle.strc_weights.specs.Weights as weights
-use Rattle.strc_scope.specs.Saying.{store_of}
-use Rattle.strc_scope.specs.Texts.{Constants}
+use Rattle.strc_statements.specs.Weights as weights
+use Rattle.strc_statements.specs.Saying.{store_of}
+use Rattle.strc_statements.specs.Texts.{Constants}
 use Rattle.strc_stream.specs.Instances as instances
 use Rattle.strc_stream.specs.View.{stream_view}
 use Rattle.strc_stream.specs.declared.stream.Stream.{Stream}
-use Rattle.strc_scope.specs.declared.error.ElabError.{ElabError}
+use Rattle.strc_statements.specs.declared.error.ElabError.{ElabError}
 use Rattle.strc_elab.specs.declared.progress.Progress.{Progress}
-use Rattle.strc_weights.specs.Splits.{split_view}
-use Rattle.strc_weights.specs.declared.weights.Split.{Split}
-use Rattle.strc_scope.specs.Answers.{IsRefusal}
+use Rattle.strc_statements.specs.Splits.{split_view}
+use Rattle.strc_statements.specs.declared.weights.Split.{Split}
+use Rattle.strc_statements.specs.Answers.{IsRefusal}
 
 -- the weights of a `join`
 abbrev pub join_view : Option (Vec ℤ Global) → Option (List ℤ)

@@ -24,22 +24,24 @@ use Rattle.strc_check.specs.Typing.{TypedNames, names_after}
 use Rattle.strc_semantics.specs.declared.fault.Cause.{Cause}
 use Rattle.strc_semantics.specs.declared.fault.Cause.TheVariants as causes
 use Rattle.strc_check.specs.declared.types.ValueType.TheVariants as kind
-use Rattle.strc_weights.specs.Weights.{Split, ToEach, InTurn, weighted, split_dealt, join_dealt}
-use Rattle.strc_weights.specs.Weights.{input_written, output_written, loop_weights, loop_splitter}
-use Rattle.strc_declarations.specs.MainStreams.{doubled_from, not_doubled, main_of}
-use Rattle.strc_declarations.specs.Written.{same_item, is_as_written}
-use Rattle.strc_weights.specs.Sides.{passes_items, last_given, inputs_in}
-use Rattle.strc_weights.specs.Sides.{outputs_in, any_side}
+use Rattle.strc_statements.specs.Weights.{Split, ToEach, InTurn, weighted, split_dealt, join_dealt}
+use Rattle.strc_statements.specs.Weights.{input_written, output_written, loop_weights}
+use Rattle.strc_statements.specs.Weights.{loop_splitter}
+use Rattle.strc_statements.specs.MainStreams.{doubled_from, not_doubled, main_of}
+use Rattle.strc_statements.specs.Written.{same_item, is_as_written}
+use Rattle.strc_statements.specs.Sides.{passes_items, last_given, inputs_in}
+use Rattle.strc_statements.specs.Sides.{outputs_in, any_side}
 use Rattle.strc_stream.specs.Instances.{Stream, in_a_row}
 use Rattle.strc_stream.specs.Instances as instance
 use Rattle.strc_stream.specs.Types.{input_of, output_of}
-use Rattle.strc_scope.specs.Texts.{Constants, Place, Text, FilterText, CompositeText, IdentityText}
-use Rattle.strc_scope.specs.Texts.{ReaderText, WriterText, anonymous, text_of, parameters_of}
-use Rattle.strc_scope.specs.Texts.{is_doubled, declared_from, captures}
-use Rattle.strc_scope.specs.declared.error.ElabError.{ElabError}
-use Rattle.strc_scope.specs.declared.error.ElabError.TheVariants as refused
-use Rattle.strc_scope.specs.Statements.{ruled, computed, eval_checked, simple_done}
-use Rattle.strc_scope.specs.Statements.{declaration_done}
+use Rattle.strc_statements.specs.Texts.{Constants, Place, Text, FilterText, CompositeText}
+use Rattle.strc_statements.specs.Texts.{IdentityText}
+use Rattle.strc_statements.specs.Texts.{ReaderText, WriterText, anonymous, text_of, parameters_of}
+use Rattle.strc_statements.specs.Texts.{is_doubled, declared_from, captures}
+use Rattle.strc_statements.specs.declared.error.ElabError.{ElabError}
+use Rattle.strc_statements.specs.declared.error.ElabErrorKind.TheVariants as refused
+use Rattle.strc_statements.specs.Statements.{ruled, computed, eval_checked, simple_done}
+use Rattle.strc_statements.specs.Statements.{declaration_done}
 
 -- goes on where a rule is kept
 abbrev pub where_kept : {A : Type 0} → Bool → ElabError → Result A ElabError → Result A ElabError

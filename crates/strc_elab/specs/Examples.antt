@@ -13,7 +13,7 @@ use Rattle.strc_semantics.specs.declared.fault.Cause.TheVariants.{Turns}
 use Rattle.strc_elab.specs.Elaboration.{elaborated}
 use Rattle.strc_stream.specs.Instances as instance
 use Rattle.strc_stream.specs.Instances.{Stream, in_a_row}
-use Rattle.strc_scope.specs.declared.error.ElabError.TheVariants.{DepthLimit, ConstFault}
+use Rattle.strc_statements.specs.declared.error.ElabErrorKind.TheVariants.{DepthLimit, ConstFault}
 
 -- names of a letter: S, P, A, R, M, i, n and x
 abbrev letter_s : List ℕ

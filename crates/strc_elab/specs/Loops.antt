@@ -5,7 +5,7 @@ use Rattle.strc_syntax.specs.Tree as tree
 use Rattle.strc_check.specs.Typing.{TypedNames, names_after}
 use Rattle.strc_elab.specs.Elaboration.{Setting, Progress, condition_evaluated, inside, looped}
 use Rattle.strc_elab.specs.Elaboration.{stmt_run}
-use Rattle.strc_scope.specs.declared.error.ElabError.{ElabError}
+use Rattle.strc_statements.specs.declared.error.ElabError.{ElabError}
 
 -- a loop without a step, which may turn fewer times than this
 abbrev pub while_looped : Setting → TypedNames → tree.Expr → tree.Stmt → (fuel : ℕ) → Progress

@@ -7,7 +7,7 @@ use Rattle.strc_elab.specs.Elaboration.{instance_of, elaborated}
 use Rattle.strc_stream.specs.Flattening.{nodes_of}
 use Rattle.strc_graph.specs.Graphs.{NodeCode, Filter, Scatter, Copy, Gather}
 use Rattle.strc_stream.specs.Instances.{Stream}
-use Rattle.strc_scope.specs.Texts.{Place}
+use Rattle.strc_statements.specs.Texts.{Place}
 use Rattle.strc_stream.specs.Types.{IsClosed}
 
 -- a filter is an instance of a text; no stream of a program has a node of fission

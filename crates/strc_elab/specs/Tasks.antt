@@ -6,12 +6,12 @@ use Rattle.indexmap.specs.IndexMap.{get_by}
 use Rattle.strc_syntax.specs.Tree.{Declaration}
 use Rattle.strc_syntax.specs.View.{declaration_view, block_view}
 use Rattle.strc_semantics.specs.Filters.{filter_parts}
-use Rattle.strc_scope.specs.Texts as texts
+use Rattle.strc_statements.specs.Texts as texts
 use Rattle.strc_elab.specs.Elaboration as spec
-use Rattle.strc_scope.specs.Answers.{IsVerdict}
-use Rattle.strc_declarations.specs.Names.{place_from}
+use Rattle.strc_statements.specs.Answers.{IsVerdict}
+use Rattle.strc_statements.specs.Names.{place_from}
 use Rattle.strc_stream.specs.View.{stream_view}
-use Rattle.strc_scope.specs.declared.error.ElabError.{ElabError}
+use Rattle.strc_statements.specs.declared.error.ElabError.{ElabError}
 use Rattle.strc_elab.specs.declared.task.Text.{Text}
 use Rattle.strc_elab.specs.declared.task.Text.TheVariants as text
 use Rattle.strc_elab.specs.declared.task.Task.{Task}

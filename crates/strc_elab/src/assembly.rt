@@ -7,9 +7,11 @@ ghost use Rattle.strc_graph.specs.NodeView.{splitter_view};
 ghost use Rattle.strc_stream.specs.Instances as instances;
 ghost use Rattle.strc_stream.specs.Types as stream_types;
 ghost use Rattle.strc_stream.specs.View.{stream_view};
-ghost use Rattle.strc_scope.specs.Answers.{IsVerdict};
+ghost use Rattle.strc_statements.specs.Answers.{IsVerdict};
 ghost use Rattle.strc_elab.specs.Answering.{progress_of, join_view, part_view};
-ghost use Rattle.strc_weights.specs.Splits.{split_view};
+ghost use Rattle.strc_statements.specs.declared.error.ElabErrorKind.TheVariants as refused;
+ghost use Rattle.strc_statements.specs.Splits.{split_view};
+ghost use Rattle.strc_statements.specs.Weights as weights;
 ghost use Rattle.strc_elab.specs.Elaboration as spec;
 ghost use Rattle.strc_elab.specs.Assembly.{elaborated_as, IsLoopOf};
 ghost use Rattle.strc_elab.specs.Tasks.{elaborated_view};
@@ -17,15 +19,17 @@ ghost use Rattle.strc_elab.specs.Tasks.{elaborated_view};
 use crate::progress::Progress;
 use crate::task::{Elaborated, Task};
 use std::alloc::Global;
-use strc_declarations::written::is_as_written;
+use strc_base::place::Span;
+use strc_check::site::{Mismatch, Part};
 use strc_graph::graph::Splitter;
-use strc_scope::error::ElabError;
-use strc_stream::stream::Stream;
-use strc_syntax::tree::{CompositeKind, StreamType};
-use strc_weights::types::{any_side, inputs_in, outputs_in, side, types_in_a_row};
-use strc_weights::weights::{
-    input_written, join_dealt, loop_splitter, loop_weights, output_written, split_dealt,
+use strc_statements::error::{ElabError, placed};
+use strc_statements::types::{any_side, inputs_in, outputs_in, side, types_in_a_row};
+use strc_statements::weights::{
+    Split, input_written, join_dealt, loop_splitter, loop_weights, output_written, split_dealt,
 };
+use strc_statements::written::{is_as_written, same_item};
+use strc_stream::stream::Stream;
+use strc_syntax::tree::{CompositeKind, ItemType, StreamType};
 
 impl Task<'_> {
     /// What is made of a body that has run.
@@ -59,9 +63,8 @@ impl Task<'_> {
             Some(types) if is_as_written(written, types) => {
                 Ok(pipeline_of(self.alloc, types, progress))
             }
-            _ => Err(ElabError::TypeMismatch {
-                stream: self.declaration,
-            }),
+            Some(types) => Err(self.ends_differ(written, types, &progress.children)),
+            None => Err(self.missing(CompositeKind::Pipeline, Part::Add)),
         }
     }
 
@@ -79,8 +82,8 @@ impl Task<'_> {
             (Some(split), Some(join)) if !progress.types.is_empty() => {
                 let inputs = inputs_in(self.alloc, &progress.types)?;
                 let outputs = outputs_in(self.alloc, &progress.types)?;
-                let splitter = split_dealt(self.alloc, self.declaration, split, &inputs)?;
-                let joiner = join_dealt(self.alloc, self.declaration, join, &outputs)?;
+                let splitter = self.split_at(progress.split_place, split, &inputs)?;
+                let joiner = self.join_at(progress.join_place, join, &outputs)?;
                 let types = StreamType {
                     input: any_side(&inputs),
                     output: any_side(&outputs),
@@ -88,14 +91,10 @@ impl Task<'_> {
                 if is_as_written(written, types) {
                     Ok(splitjoin_of(self.alloc, types, splitter, joiner, progress))
                 } else {
-                    Err(ElabError::TypeMismatch {
-                        stream: self.declaration,
-                    })
+                    Err(ElabError::mismatch(self.declaration, Mismatch::Sides))
                 }
             }
-            _ => Err(ElabError::TypeMismatch {
-                stream: self.declaration,
-            }),
+            _ => Err(self.missing(CompositeKind::Splitjoin, splitjoin_lacks(progress))),
         }
     }
 
@@ -113,22 +112,154 @@ impl Task<'_> {
         match (&progress.join, &progress.split) {
             (Some(join), Some(split)) if progress.body.is_some() && progress.looped.is_some() => {
                 let taken = input_written(written);
-                let joiner = loop_weights(self.alloc, self.declaration, taken, join)?;
+                let joiner = self.loop_join_at(progress.join_place, taken, join)?;
                 let given = output_written(written);
-                let splitter = loop_splitter(self.alloc, self.declaration, given, split)?;
+                let splitter = self.loop_split_at(progress.split_place, given, split)?;
                 let types = loop_types(&joiner, &splitter);
                 if is_as_written(written, types) {
                     Ok(loop_of(self.alloc, types, joiner, splitter, progress))
                 } else {
-                    Err(ElabError::TypeMismatch {
-                        stream: self.declaration,
-                    })
+                    Err(ElabError::mismatch(self.declaration, Mismatch::LoopSides))
                 }
             }
-            _ => Err(ElabError::TypeMismatch {
-                stream: self.declaration,
-            }),
+            _ => Err(self.missing(CompositeKind::Feedbackloop, loop_lacks(progress))),
         }
+    }
+
+    /// A stream of this kind has no statement of this part.
+    fn missing(&self, kind: CompositeKind, part: Part) -> ElabError
+        ensures { result ≡ refused.TypeMismatch self.now.declaration }
+    {
+        ElabError::mismatch(self.declaration, Mismatch::Missing(kind, part))
+    }
+
+    /// A pipeline takes other than what is written, as its first child does, or else gives other
+    /// than what is written, as its last child does.
+    fn ends_differ(
+        &self,
+        written: Option<StreamType>,
+        types: StreamType,
+        children: &[Stream],
+    ) -> ElabError
+        ensures { result ≡ refused.TypeMismatch self.now.declaration }
+    {
+        if takes_as_written(written, types) {
+            ElabError::mismatch(self.declaration, Mismatch::Last).or_at(last_added(children))
+        } else {
+            ElabError::mismatch(self.declaration, Mismatch::First).or_at(first_added(children))
+        }
+    }
+
+    /// The splitter of a split-join, whose `split` is written here.
+    fn split_at(
+        &self,
+        place: Option<Span>,
+        split: &Split,
+        inputs: &[ItemType],
+    ) -> Result<Option<Splitter>, ElabError>
+        ensures { IsVerdict (option_map splitter_view)
+            (weights.split_dealt self.now.declaration (split_view split.now) inputs.now) result }
+    {
+        placed(
+            place,
+            split_dealt(self.alloc, self.declaration, split, inputs),
+        )
+    }
+
+    /// The joiner of a split-join, whose `join` is written here.
+    fn join_at(
+        &self,
+        place: Option<Span>,
+        join: &[i32],
+        outputs: &[ItemType],
+    ) -> Result<Option<Vec<u32>>, ElabError>
+        ensures { IsVerdict (option_map (λ dealt. dealt.items))
+            (weights.join_dealt self.now.declaration join.now outputs.now) result }
+    {
+        placed(
+            place,
+            join_dealt(self.alloc, self.declaration, join, outputs),
+        )
+    }
+
+    /// The joiner of a feedback loop, whose `join` is written here.
+    fn loop_join_at(
+        &self,
+        place: Option<Span>,
+        taken: ItemType,
+        join: &[i32],
+    ) -> Result<Vec<u32>, ElabError>
+        ensures { IsVerdict (λ dealt. dealt.items) (weights.weighted self.now.declaration
+            (weights.loop_weights taken join.now)) result }
+    {
+        placed(
+            place,
+            loop_weights(self.alloc, self.declaration, taken, join),
+        )
+    }
+
+    /// The splitter of a feedback loop, whose `split` is written here.
+    fn loop_split_at(
+        &self,
+        place: Option<Span>,
+        given: ItemType,
+        split: &Split,
+    ) -> Result<Splitter, ElabError>
+        ensures { IsVerdict splitter_view (weights.weighted self.now.declaration
+            (weights.loop_splitter given (split_view split.now))) result }
+    {
+        placed(
+            place,
+            loop_splitter(self.alloc, self.declaration, given, split),
+        )
+    }
+}
+
+/// The first part that a split-join lacks.
+fn splitjoin_lacks(progress: &Progress) -> Part {
+    if progress.split.is_none() {
+        Part::Split
+    } else if progress.types.is_empty() {
+        Part::Add
+    } else {
+        Part::Join
+    }
+}
+
+/// The first part that a feedback loop lacks.
+fn loop_lacks(progress: &Progress) -> Part {
+    if progress.join.is_none() {
+        Part::Join
+    } else if progress.body.is_none() {
+        Part::Body
+    } else if progress.looped.is_none() {
+        Part::Loop
+    } else {
+        Part::Split
+    }
+}
+
+/// Whether a pipeline takes what is written.
+fn takes_as_written(written: Option<StreamType>, types: StreamType) -> bool {
+    match written {
+        Some(written) => same_item(written.input, types.input),
+        None => true,
+    }
+}
+
+/// The statement that adds the first of these streams, where that is known.
+fn first_added(children: &[Stream]) -> Option<Span> {
+    match children {
+        [Stream::Placed(place, _), ..] => Some(*place),
+        _ => None,
+    }
+}
+
+/// The statement that adds the last of these streams, where that is known.
+fn last_added(children: &[Stream]) -> Option<Span> {
+    match children {
+        [.., Stream::Placed(place, _)] => Some(*place),
+        _ => None,
     }
 }
 

@@ -9,23 +9,25 @@ ghost use Rattle.strc_syntax.specs.View.{expr_view, stmt_view, block_view};
 ghost use Rattle.strc_semantics.specs.Firing as firing;
 ghost use Rattle.strc_semantics.specs.Firing.{turn_limit};
 ghost use Rattle.strc_check.specs.Typing as typing;
-ghost use Rattle.strc_scope.specs.Statements as statements;
+ghost use Rattle.strc_statements.specs.Statements as statements;
 ghost use Rattle.strc_elab.specs.Elaboration as spec;
 ghost use Rattle.strc_elab.specs.Loops.{while_looped, for_looped, names_after_block};
-ghost use Rattle.strc_scope.specs.Saying.{store_of};
-ghost use Rattle.strc_scope.specs.Answers.{Done};
+ghost use Rattle.strc_statements.specs.Saying.{store_of};
+ghost use Rattle.strc_statements.specs.Answers.{Done};
 ghost use Rattle.strc_elab.specs.Answering.{progress_of, Tests, Runs};
-ghost use Rattle.strc_scope.specs.Places.{place_of as spec_place};
+ghost use Rattle.strc_statements.specs.Places.{place_of as spec_place};
 ghost use Rattle.strc_elab.specs.Tasks.{IsReady, setting_of, place_of as task_place};
 
 use crate::progress::Progress;
 use crate::task::{Elaborated, Task};
+use strc_base::place::Span;
+use strc_check::site::Mismatch;
 use strc_check::types::ValueType;
-use strc_scope::error::ElabError;
-use strc_scope::steps::Place;
-use strc_scope::store::Store;
 use strc_semantics::evaluation::is_true;
 use strc_semantics::fault::{Cause, TURN_LIMIT};
+use strc_statements::error::{ElabError, placed};
+use strc_statements::steps::Place;
+use strc_statements::store::Store;
 use strc_syntax::tree::{Expr, Stmt};
 
 /// What a body's statements are in: the task whose text it is, and what elaborates the streams
@@ -44,9 +46,7 @@ fn turn(store: &mut Store) -> Result<(), ElabError>
     ensures names { store.new.variables.names ≡ store.old.variables.names }
 {
     if store.turns >= TURN_LIMIT {
-        return Err(ElabError::ConstFault {
-            cause: Cause::Turns,
-        });
+        return Err(ElabError::fault(Cause::Turns));
     }
     store.turns += 1;
     Ok(())
@@ -172,11 +172,36 @@ impl<F: Fn(Task) -> Result<Elaborated, ElabError>> Body<'_, F> {
             Stmt::For(first, condition, step, body) => {
                 self.for_loop(first, condition.as_ref(), step, body, progress)
             }
-            Stmt::Push(_) | Stmt::Print(_) | Stmt::Println(_) => Err(ElabError::TypeMismatch {
-                stream: self.task.declaration,
-            }),
+            Stmt::Push(_) | Stmt::Print(_) | Stmt::Println(_) => {
+                self.mismatch(Mismatch::FilterStatement)
+            }
             Stmt::Compose(composition) => self.compose(composition, progress),
+            Stmt::Placed(place, inner) => self.statement_at(start, *place, inner, progress),
         }
+    }
+
+    /// Runs a statement that is written here: a refusal of its own is here too, but not one of a
+    /// statement within it, which has a place of its own.
+    #[cycle(body)]
+    fn statement_at(
+        &self,
+        start: usize,
+        place: Span,
+        statement: &Stmt,
+        progress: &mut Progress,
+    ) -> Result<(), ElabError>
+        requires { IsReady self.now.task (F.pre self.now.elaborate) (F.post self.now.elaborate) }
+        ensures runs { Runs (spec.stmt_run (setting_of self.now.task)
+            progress.old.store.variables.names start (stmt_view statement.now)
+            (progress_of progress.old)) result (progress_of progress.new) }
+        ensures names { OnOk result (progress.new.store.variables.names
+            ≡ typing.names_after progress.old.store.variables.names (stmt_view statement.now)) }
+    {
+        let around = progress.here;
+        progress.here = Some(place);
+        let outcome = self.statement(start, statement, progress);
+        progress.here = around;
+        placed(Some(place), outcome)
     }
 
     /// Runs a block in a scope of its own.
@@ -244,9 +269,7 @@ impl<F: Fn(Task) -> Result<Elaborated, ElabError>> Body<'_, F> {
             turn(&mut progress.store)?;
             self.inside(body, progress)?;
         }
-        Err(ElabError::ConstFault {
-            cause: Cause::Turns,
-        })
+        Err(ElabError::fault(Cause::Turns))
     }
 
     /// Runs a loop with a step after each turn.
@@ -274,8 +297,6 @@ impl<F: Fn(Task) -> Result<Elaborated, ElabError>> Body<'_, F> {
             self.inside(body, progress)?;
             self.inside(step, progress)?;
         }
-        Err(ElabError::ConstFault {
-            cause: Cause::Turns,
-        })
+        Err(ElabError::fault(Cause::Turns))
     }
 }

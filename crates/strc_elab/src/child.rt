@@ -1,33 +1,37 @@
 // Children of a composite stream, elaborated at the moment that their statement runs.
 
 ghost use Rattle.std.specs.Prelude.{◌≡◌, [], map, length, IfOk, OnOk, Ok, Some};
+ghost use Rattle.std.specs.Option.{is_some};
 ghost use Rattle.strc_syntax.specs.View.{child_view, declaration_view, expr_view};
 ghost use Rattle.strc_syntax.specs.declared.tree.Role.TheVariants as roles;
 ghost use Rattle.strc_elab.specs.Elaboration as spec;
-ghost use Rattle.strc_scope.specs.Texts as texts;
-ghost use Rattle.strc_scope.specs.Saying.{store_of};
+ghost use Rattle.strc_statements.specs.Texts as texts;
+ghost use Rattle.strc_statements.specs.Saying.{store_of};
 ghost use Rattle.strc_elab.specs.Answering.{progress_of, Binds, Runs};
 ghost use Rattle.strc_elab.specs.Assembly.{elaborated_by};
 ghost use Rattle.strc_elab.specs.Tasks.{IsReady, setting_of, program_of};
 ghost use Rattle.strc_elab.specs.Tasks.{text_view};
+ghost use Rattle.strc_stream.specs.View.{stream_view};
 
 use crate::body::Body;
-use crate::declared::text_of;
+use crate::declared::{in_own_text, text_of};
 use crate::progress::Progress;
 use crate::task::{Elaborated, Task, Text};
 use std::alloc::Global;
 use strc_base::memory::NoMemory;
 use strc_base::name::Name;
+use strc_base::place::Span;
 use strc_check::constants::Constants;
+use strc_check::site::Mismatch;
 use strc_check::typed_scope::TypedScope;
 use strc_check::types::ValueType;
-use strc_declarations::declared::declared;
-use strc_scope::captures::captures;
-use strc_scope::error::ElabError;
-use strc_scope::store::Store;
+use strc_statements::captures::captures;
+use strc_statements::declared::declared;
+use strc_statements::error::{ElabError, ElabErrorKind};
+use strc_statements::store::Store;
+use strc_statements::types::passes_items;
 use strc_stream::stream::Stream;
 use strc_syntax::tree::{Child, Decl, Expr, Role, StreamType};
-use strc_weights::types::passes_items;
 
 impl<F: Fn(Task) -> Result<Elaborated, ElabError>> Body<'_, F> {
     /// Elaborates a child.
@@ -86,7 +90,10 @@ impl<F: Fn(Task) -> Result<Elaborated, ElabError>> Body<'_, F> {
                 arguments,
                 progress,
             ),
-            None => Err(ElabError::UnknownName { name: name.copy()? }),
+            None => {
+                let unknown = ElabErrorKind::UnknownName { name: name.copy()? };
+                Err(ElabError::from(unknown).or_at(name.place()))
+            }
         }
     }
 
@@ -110,15 +117,18 @@ impl<F: Fn(Task) -> Result<Elaborated, ElabError>> Body<'_, F> {
     {
         let parameters = parameters_of(declaration);
         if arguments.len() != parameters.len() {
-            return Err(ElabError::BadArguments {
+            return Err(ElabError::from(ElabErrorKind::BadArguments {
                 stream: self.task.declaration,
-            });
+            }));
         }
         let constants = self.arguments(parameters, arguments, &mut progress.store)?;
-        if is_doubled(self.task.alloc, parameters)? {
-            return Err(ElabError::TypeMismatch { stream: number });
+        if let Some(twice) = doubled(self.task.alloc, parameters)? {
+            let error = ElabError::mismatch(number, Mismatch::DeclaredTwice);
+            return Err(error.or_at(twice.place()));
         }
-        self.elaborated(role, number, &constants, text_of(declaration), progress)
+        let text = text_of(declaration);
+        let own = declaration.name.place();
+        self.elaborated(role, number, &constants, text, own, progress)
     }
 
     /// The arguments of a child, from left to right, bound to its parameters.
@@ -160,7 +170,14 @@ impl<F: Fn(Task) -> Result<Elaborated, ElabError>> Body<'_, F> {
             &progress.store.variables,
             self.task.constants,
         )?;
-        self.elaborated(role, self.task.declaration, &constants, text, progress)
+        self.elaborated(
+            role,
+            self.task.declaration,
+            &constants,
+            text,
+            None,
+            progress,
+        )
     }
 
     /// Elaborates a built-in child: it is in the same declaration, and its text names nothing.
@@ -174,10 +191,18 @@ impl<F: Fn(Task) -> Result<Elaborated, ElabError>> Body<'_, F> {
             ≡ progress.old.store.variables.names) }
     {
         let constants = Constants::new(self.task.alloc);
-        self.elaborated(role, self.task.declaration, &constants, text, progress)
+        self.elaborated(
+            role,
+            self.task.declaration,
+            &constants,
+            text,
+            None,
+            progress,
+        )
     }
 
-    /// Elaborates a text one level below, and adds what is made.
+    /// Elaborates a text one level below, and adds what is made. A refusal that is the text's own
+    /// is at the name of its declaration, where it has one.
     #[tactic(auto, unfolding(crate::specs::Tasks::IsReady))]
     fn elaborated(
         &self,
@@ -185,6 +210,7 @@ impl<F: Fn(Task) -> Result<Elaborated, ElabError>> Body<'_, F> {
         declaration: usize,
         constants: &Constants,
         text: Text,
+        own: Option<Span>,
         progress: &mut Progress,
     ) -> Result<(), ElabError>
         requires { IsReady self.now.task (F.pre self.now.elaborate) (F.post self.now.elaborate) }
@@ -199,7 +225,7 @@ impl<F: Fn(Task) -> Result<Elaborated, ElabError>> Body<'_, F> {
         ensures names { OnOk result (progress.new.store.variables.names
             ≡ progress.old.store.variables.names) }
     {
-        let elaborated = (self.elaborate)(Task {
+        let answer = (self.elaborate)(Task {
             alloc: self.task.alloc,
             declarations: self.task.declarations,
             numbers: self.task.numbers,
@@ -208,13 +234,15 @@ impl<F: Fn(Task) -> Result<Elaborated, ElabError>> Body<'_, F> {
             constants,
             text,
             totals: progress.totals(),
-        })?;
+        });
+        let elaborated = in_own_text(own, answer)?;
         progress.store.turns = elaborated.totals.turns;
         progress.filters = elaborated.totals.filters;
+        let stream = added_here(self.task.alloc, progress.here, elaborated.stream)?;
         match role {
-            Role::Add => self.add(elaborated.stream, elaborated.types, progress),
-            Role::Body => self.set_body(elaborated.stream, elaborated.types, progress),
-            Role::Loop => self.set_loop(elaborated.stream, elaborated.types, progress),
+            Role::Add => self.add(stream, elaborated.types, progress),
+            Role::Body => self.set_body(stream, elaborated.types, progress),
+            Role::Loop => self.set_loop(stream, elaborated.types, progress),
         }
     }
 
@@ -232,7 +260,7 @@ impl<F: Fn(Task) -> Result<Elaborated, ElabError>> Body<'_, F> {
             ≡ progress.old.store.variables.names) }
     {
         if !progress.may_add(types) {
-            return self.mismatch();
+            return self.mismatch(Mismatch::Follows);
         }
         progress.children.push(stream)?;
         progress.types.push(types)?;
@@ -253,7 +281,7 @@ impl<F: Fn(Task) -> Result<Elaborated, ElabError>> Body<'_, F> {
             ≡ progress.old.store.variables.names) }
     {
         if !passes_items(types) {
-            return self.mismatch();
+            return self.mismatch(Mismatch::LoopChild);
         }
         progress.body = Some(Box::new(self.task.alloc, stream)?);
         Ok(())
@@ -273,10 +301,20 @@ impl<F: Fn(Task) -> Result<Elaborated, ElabError>> Body<'_, F> {
             ≡ progress.old.store.variables.names) }
     {
         if !passes_items(types) {
-            return self.mismatch();
+            return self.mismatch(Mismatch::LoopChild);
         }
         progress.looped = Some(Box::new(self.task.alloc, stream)?);
         Ok(())
+    }
+}
+
+/// A stream, with the statement that adds it, where that is known.
+fn added_here(alloc: Global, here: Option<Span>, stream: Stream) -> Result<Stream, NoMemory>
+    ensures { IfOk result (λ added. stream_view added ≡ stream_view stream) }
+{
+    match here {
+        Some(place) => Ok(Stream::Placed(place, Box::new(alloc, stream)?)),
+        None => Ok(stream),
     }
 }
 
@@ -290,17 +328,17 @@ fn parameters_of(declaration: &Decl) -> &[Name]
     }
 }
 
-/// Whether a name occurs twice among these. It takes expected linear time.
+/// The first of these names that is an earlier one too. It takes expected linear time.
 #[tactic(auto, using(crate::proofs::Doubles::doubled_at_first))]
-fn is_doubled(alloc: Global, names: &[Name]) -> Result<bool, NoMemory>
-    ensures { IfOk result (λ doubled. doubled ≡ texts.is_doubled names.now) }
+fn doubled(alloc: Global, names: &[Name]) -> Result<Option<&Name>, NoMemory>
+    ensures { IfOk result (λ doubled. is_some doubled ≡ texts.is_doubled names.now) }
 {
     let mut earlier = TypedScope::new(alloc);
     for name in names {
         if earlier.has_since(0, name) {
-            return Ok(true);
+            return Ok(Some(name));
         }
         earlier.declare(name, ValueType::Int)?;
     }
-    Ok(false)
+    Ok(None)
 }

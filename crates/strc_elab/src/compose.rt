@@ -3,8 +3,8 @@
 ghost use Rattle.std.specs.Prelude.{◌≡◌, [], map, Some, Err, OnOk};
 ghost use Rattle.strc_syntax.specs.View.{expr_view, composition_view, child_view, splitter_view};
 ghost use Rattle.strc_syntax.specs.Tree as tree;
-ghost use Rattle.strc_scope.specs.Saying.{store_of};
-ghost use Rattle.strc_scope.specs.declared.error.ElabError.TheVariants as refused;
+ghost use Rattle.strc_statements.specs.Saying.{store_of};
+ghost use Rattle.strc_statements.specs.declared.error.ElabErrorKind.TheVariants as refused;
 ghost use Rattle.strc_elab.specs.Answering.{progress_of, Runs, Lists, Splits};
 ghost use Rattle.strc_elab.specs.Elaboration as spec;
 ghost use Rattle.strc_elab.specs.Tasks.{IsReady, setting_of};
@@ -12,11 +12,21 @@ ghost use Rattle.strc_elab.specs.Tasks.{IsReady, setting_of};
 use crate::body::Body;
 use crate::progress::Progress;
 use crate::task::{Elaborated, Task};
+use strc_check::site::{Mismatch, Part};
 use strc_check::types::ValueType;
-use strc_scope::error::ElabError;
-use strc_scope::store::Store;
+use strc_statements::error::ElabError;
+use strc_statements::store::Store;
+use strc_statements::weights::Split;
 use strc_syntax::tree::{Child, Composition, Expr, Role, Splitter};
-use strc_weights::weights::Split;
+
+/// The part that a child is for.
+fn part_of(role: Role) -> Part {
+    match role {
+        Role::Add => Part::Add,
+        Role::Body => Part::Body,
+        Role::Loop => Part::Loop,
+    }
+}
 
 impl<F: Fn(Task) -> Result<Elaborated, ElabError>> Body<'_, F> {
     /// Does a stream statement.
@@ -41,13 +51,11 @@ impl<F: Fn(Task) -> Result<Elaborated, ElabError>> Body<'_, F> {
         }
     }
 
-    /// A statement that is one too many, or that a stream of this kind doesn't have.
-    pub(crate) fn mismatch(&self) -> Result<(), ElabError>
+    /// A statement that breaks this rule on types, kinds and parts.
+    pub(crate) fn mismatch(&self, mismatch: Mismatch) -> Result<(), ElabError>
         ensures { result ≡ Err (refused.TypeMismatch self.now.task.declaration) }
     {
-        Err(ElabError::TypeMismatch {
-            stream: self.task.declaration,
-        })
+        Err(ElabError::mismatch(self.task.declaration, mismatch))
     }
 
     /// Elaborates a child for this.
@@ -62,7 +70,7 @@ impl<F: Fn(Task) -> Result<Elaborated, ElabError>> Body<'_, F> {
         if progress.may_have(role) {
             self.child(role, child, progress)
         } else {
-            self.mismatch()
+            self.mismatch(progress.no_room_for(part_of(role)))
         }
     }
 
@@ -75,10 +83,11 @@ impl<F: Fn(Task) -> Result<Elaborated, ElabError>> Body<'_, F> {
             ≡ progress.old.store.variables.names) }
     {
         if !progress.may_split() {
-            return self.mismatch();
+            return self.mismatch(progress.no_room_for(Part::Split));
         }
         let split = self.split_of(splitter, &mut progress.store)?;
         progress.split = Some(split);
+        progress.split_place = progress.here;
         Ok(())
     }
 
@@ -91,10 +100,11 @@ impl<F: Fn(Task) -> Result<Elaborated, ElabError>> Body<'_, F> {
             ≡ progress.old.store.variables.names) }
     {
         if !progress.may_join() {
-            return self.mismatch();
+            return self.mismatch(progress.no_room_for(Part::Join));
         }
         let join = self.values(weights, &mut progress.store)?;
         progress.join = Some(join);
+        progress.join_place = progress.here;
         Ok(())
     }
 
@@ -107,7 +117,7 @@ impl<F: Fn(Task) -> Result<Elaborated, ElabError>> Body<'_, F> {
             ≡ progress.old.store.variables.names) }
     {
         if !progress.may_enqueue() {
-            return self.mismatch();
+            return self.mismatch(progress.no_room_for(Part::Enqueue));
         }
         let item = self
             .place()

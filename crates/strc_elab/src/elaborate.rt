@@ -6,21 +6,21 @@ ghost use Rattle.std.specs.Cmp.Lexicographic.{pointwise};
 ghost use Rattle.indexmap.specs.IndexMap.{get_by};
 ghost use Rattle.strc_syntax.specs.View.{declaration_view, program_view};
 ghost use Rattle.strc_elab.specs.Elaboration as spec;
-ghost use Rattle.strc_scope.specs.Answers.{IsVerdict};
-ghost use Rattle.strc_declarations.specs.Names.{place_from};
+ghost use Rattle.strc_statements.specs.Answers.{IsVerdict};
+ghost use Rattle.strc_statements.specs.Names.{place_from};
 ghost use Rattle.strc_elab.specs.Sound.{IsElaborated};
 ghost use Rattle.strc_elab.specs.Tasks.{elaborated_view};
 ghost use Rattle.strc_stream.specs.View.{stream_view};
 
-use crate::declared::text_of;
+use crate::declared::{in_own_text, text_of};
 use crate::level::elaborate_text;
 use crate::task::{Elaborated, Task, Totals};
 use indexmap::IndexMap;
 use std::alloc::Global;
 use strc_check::constants::Constants;
-use strc_declarations::index::index_of;
-use strc_declarations::main_stream::main_of;
-use strc_scope::error::ElabError;
+use strc_statements::error::ElabError;
+use strc_statements::index::index_of;
+use strc_statements::main_stream::main_of;
 use strc_stream::stream::Stream;
 use strc_syntax::tree::{Decl, Program};
 
@@ -60,7 +60,7 @@ fn main_elaborated(
         (number, declaration_view declaration.now)) result }
 {
     let constants = Constants::new(alloc);
-    elaborate_text(Task {
+    let answer = elaborate_text(Task {
         alloc,
         declarations,
         numbers,
@@ -72,5 +72,6 @@ fn main_elaborated(
             turns: 0,
             filters: 0,
         },
-    })
+    });
+    in_own_text(declaration.name.place(), answer)
 }

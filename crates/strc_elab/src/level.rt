@@ -5,7 +5,7 @@ ghost use Rattle.strc_elab.specs.Tasks.{KnowsNames, IsTaskVerdict};
 
 use crate::body::Body;
 use crate::task::{Elaborated, Task};
-use strc_scope::error::ElabError;
+use strc_statements::error::{ElabError, ElabErrorKind};
 
 /// The instances that a text means, with so many levels as the task allows.
 pub(crate) fn elaborate_text(task: Task) -> Result<Elaborated, ElabError>
@@ -13,7 +13,7 @@ pub(crate) fn elaborate_text(task: Task) -> Result<Elaborated, ElabError>
     ensures { IsTaskVerdict task.entry result }
 {
     if task.levels == 0 {
-        return Err(ElabError::DepthLimit);
+        return Err(ElabError::from(ElabErrorKind::DepthLimit));
     }
     let body = Body {
         task,

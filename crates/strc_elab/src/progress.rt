@@ -5,15 +5,17 @@ ghost use Rattle.strc_elab.specs.Elaboration as spec;
 ghost use Rattle.strc_elab.specs.Answering.{progress_of};
 
 use crate::task::Totals;
-use strc_declarations::written::same_item;
-use strc_scope::store::Store;
+use strc_base::place::Span;
+use strc_check::site::{Mismatch, Part};
+use strc_statements::store::Store;
+use strc_statements::weights::Split;
+use strc_statements::written::same_item;
 use strc_stream::stream::Stream;
 use strc_syntax::tree::{CompositeKind, Role, StreamType};
-use strc_weights::weights::Split;
 
 /// What its stream statements have said so far: the children of `add` with their types, the weights
 /// of `split` and `join`, body and loop, and the enqueued items; its variables and the turns so
-/// far, and how many filters there are.
+/// far, and how many filters there are. Contracts see nothing of places.
 #[derive(Drop)]
 pub(crate) struct Progress {
     pub(crate) kind: CompositeKind,
@@ -26,6 +28,11 @@ pub(crate) struct Progress {
     pub(crate) looped: Option<Box<Stream>>,
     pub(crate) enqueued: Vec<i32>,
     pub(crate) filters: u32,
+    /// The innermost statement that runs, where its place is known.
+    pub(crate) here: Option<Span>,
+    /// The statements that said `split` and `join`.
+    pub(crate) split_place: Option<Span>,
+    pub(crate) join_place: Option<Span>,
 }
 
 fn is_pipeline(kind: CompositeKind) -> bool
@@ -43,6 +50,15 @@ fn is_loop(kind: CompositeKind) -> bool
     match kind {
         CompositeKind::Feedbackloop => true,
         CompositeKind::Pipeline | CompositeKind::Splitjoin => false,
+    }
+}
+
+/// Whether streams of this kind have statements of this part.
+fn has_part(kind: CompositeKind, part: Part) -> bool {
+    match part {
+        Part::Add => !is_loop(kind),
+        Part::Body | Part::Loop | Part::Enqueue => is_loop(kind),
+        Part::Split | Part::Join => !is_pipeline(kind),
     }
 }
 
@@ -87,6 +103,15 @@ impl Progress {
         ensures { result ≡ spec.is_loop self.now.kind }
     {
         is_loop(self.kind)
+    }
+
+    /// What a statement of this part breaks, where there may be none, or none more.
+    pub(crate) fn no_room_for(&self, part: Part) -> Mismatch {
+        if has_part(self.kind, part) {
+            Mismatch::Second(self.kind, part)
+        } else {
+            Mismatch::Foreign(self.kind, part)
+        }
     }
 
     /// Whether a child of `add` may have this type.

@@ -6,12 +6,12 @@ ghost use Rattle.strc_syntax.specs.View.{block_view};
 ghost use Rattle.strc_semantics.specs.Filters.{filter_of, filter_parts};
 ghost use Rattle.strc_semantics.specs.Firing as firing;
 ghost use Rattle.strc_elab.specs.Elaboration as spec;
-ghost use Rattle.strc_scope.specs.Answers.{IsVerdict};
+ghost use Rattle.strc_statements.specs.Answers.{IsVerdict};
 ghost use Rattle.strc_elab.specs.Answering.{progress_of};
 ghost use Rattle.strc_elab.specs.Totals.{totals_view};
 ghost use Rattle.strc_elab.specs.Tasks.{IsReady, setting_of, place_of, totals_of, text_view};
 ghost use Rattle.strc_elab.specs.Tasks.{elaborated_view};
-ghost use Rattle.strc_scope.specs.Texts as texts;
+ghost use Rattle.strc_statements.specs.Texts as texts;
 
 use crate::body::Body;
 use crate::progress::Progress;
@@ -21,10 +21,10 @@ use strc_base::name::{Name, StringLiteral};
 use strc_code::code::Code;
 use strc_graph::graph::NODE_LIMIT;
 use strc_graph::instance::Instance;
-use strc_scope::error::ElabError;
-use strc_scope::steps::at_declaration;
-use strc_scope::store::Store;
-use strc_scope::variables::Variables;
+use strc_statements::error::{ElabError, ElabErrorKind};
+use strc_statements::steps::at_declaration;
+use strc_statements::store::Store;
+use strc_statements::variables::Variables;
 use strc_stream::stream::Stream;
 use strc_syntax::tree::{CompositeKind, ItemType, Member, Stmt, StreamType};
 use strc_work::firing::{Fire, StartError};
@@ -37,7 +37,7 @@ impl Totals {
             (λ totals. Ok totals)) result }
     {
         if self.filters >= NODE_LIMIT {
-            return Err(ElabError::NodeLimit);
+            return Err(ElabError::from(ElabErrorKind::NodeLimit));
         }
         Ok(Totals {
             turns: self.turns,
@@ -53,8 +53,8 @@ fn started(alloc: Global, code: Code) -> Result<Code, ElabError>
 {
     let refused = match code.start(alloc) {
         Ok(_) => return Ok(code),
-        Err(StartError::ConstFault { cause }) => ElabError::ConstFault { cause },
-        Err(StartError::NoMemory) => ElabError::NoMemory,
+        Err(StartError::ConstFault { cause }) => ElabError::fault(cause),
+        Err(StartError::NoMemory) => ElabError::from(ElabErrorKind::NoMemory),
     };
     drop(code);
     Err(refused)
@@ -184,6 +184,9 @@ impl Task<'_> {
             looped: None,
             enqueued: Vec::new(self.alloc),
             filters: self.totals.filters,
+            here: None,
+            split_place: None,
+            join_place: None,
         }
     }
 }

@@ -4,7 +4,6 @@ ghost use Rattle.std.specs.Prelude.{◌≡◌, ◌≢◌, ◌⊎◌, true, Err};
 ghost use Rattle.strc_cli.specs.Answering.{ReadsInput};
 ghost use Rattle.strc_cli.specs.Executes.{Executes, device_of};
 
-use crate::elaborator::Elaborator;
 use std::alloc::Global;
 use std::sync::Wait;
 use std::thread::Threads;
@@ -16,10 +15,10 @@ use strc_input::device::{Sink, Source};
 use strc_messages::fault::{FaultSite, bad_input_message, fault_message, not_run_message};
 use strc_messages::refusal::refusal_message;
 use strc_output::stop::Stop;
+use strc_ring::Gate;
 use strc_run::compile::Plan;
 use strc_run::run::Outcome;
 use strc_stages::Stage;
-use strc_worker::Gate;
 
 /// How a call went, and what a person reads of it; no bytes where there is nothing to say.
 #[derive(Drop)]
@@ -94,14 +93,12 @@ fn explanation(
     answered: &Result<Answer, Stop>,
 ) -> Result<Vec<u8>, NoMemory> {
     match answered {
-        Err(Stop::Refused(refusal)) => {
-            refusal_message(alloc, &Elaborator, file, text, main, refusal)
-        }
+        Err(Stop::Refused(refused)) => refusal_message(alloc, file, text, main, refused),
         Err(Stop::BadInput { word }) => bad_input_message(alloc, *word),
         Err(Stop::NotRun(refusal)) => not_run_message(alloc, file, *refusal),
         Ok(
             Answer::Ran(
-                _,
+                plan,
                 Outcome::Fault {
                     node,
                     firing,
@@ -117,7 +114,7 @@ fn explanation(
                 round: *round,
                 cause: *cause,
             };
-            fault_message(alloc, &Elaborator, file, text, main, site)
+            fault_message(alloc, file, text, main, plan.graph(), site)
         }
         Ok(_) => Ok(Vec::new(alloc)),
     }

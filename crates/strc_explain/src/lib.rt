@@ -3,9 +3,7 @@
 // its input or its run is refused, where a firing faulted, and how long its stages took.
 // The theorem to rely on: what is written is what `execute` writes.
 // Stands on strc_cli, whose answers it explains, and on strc_messages, which writes the sentences.
-// It hands in to them what strc_trial asks for, from strc_elab.
 #![tactic(auto)]
 
-mod elaborator;
 pub mod explain;
 pub mod stages;

@@ -11,7 +11,7 @@ use Rattle.strc_graph.specs.Graphs.{FileReader, FileWriter, Splitter, Joiner, Sc
 use Rattle.strc_graph.specs.Graphs.{input_ports, output_ports, inputs_at, outputs_at}
 use Rattle.strc_graph.specs.Graphs.{copied_inputs, copied_outputs}
 use Rattle.strc_graph.specs.declared.graph.Fission.{Fission}
-use Rattle.strc_writes.specs.Stateless.{is_stateless}
+use Rattle.strc_interval.specs.Stateless.{is_stateless}
 use Rattle.strc_fiss.specs.Numbers.{up_to, is_dealt, last_part, base, each_part}
 use Rattle.strc_fiss.specs.Splitting.{Wire, wires_of, copied, part_of, part_code, code_at, new_code}
 use Rattle.strc_fiss.specs.Splitting.{to_copy, from_copy, inner_wires, leaves, renamed_wire}

@@ -6,13 +6,13 @@ use mathlib.Core.Path.{Path}
 use Rattle.strc_graph.specs.Graphs.{Graph, NodeCode, Channel}
 use Rattle.strc_graph.specs.NodeView.{GraphParts, graph_view, node_view, channel_view}
 use Rattle.strc_graph.specs.declared.graph.Fission.{Fission}
-use Rattle.strc_order.specs.declared.unit as units
-use Rattle.strc_order.specs.Firings.{none_fired}
-use Rattle.strc_order.specs.Greedy as order
-use Rattle.strc_order.specs.Peaks.{AreRaised}
-use Rattle.strc_order.specs.Schedules.{ScheduleParts}
-use Rattle.strc_order.specs.Sizing.{round_rates_on, PassesOn}
-use Rattle.strc_rounds.specs.FusedUnits.{firings_of}
+use Rattle.strc_schedule.specs.declared.unit as units
+use Rattle.strc_schedule.specs.Firings.{none_fired}
+use Rattle.strc_schedule.specs.Greedy as order
+use Rattle.strc_schedule.specs.Peaks.{AreRaised}
+use Rattle.strc_schedule.specs.Schedules.{ScheduleParts}
+use Rattle.strc_schedule.specs.Sizing.{round_rates_on, PassesOn}
+use Rattle.strc_dataflow.specs.FusedUnits.{firings_of}
 use Rattle.strc_fuse.specs.Units.{round_units}
 use Rattle.strc_fuse.proofs.Counting.{firings_same}
 use Rattle.strc_fiss.specs.Fissions.{SplitPasses}

@@ -11,10 +11,10 @@ use Rattle.strc_graph.specs.Graphs.{Graph, NodeCode, Filter, Identity, FileReade
 use Rattle.strc_graph.specs.Graphs.{Splitter, Joiner, Scatter, Copy, Gather}
 use Rattle.strc_graph.specs.declared.graph.Fission.{Fission}
 use Rattle.strc_balance.specs.Balance.{count_at}
-use Rattle.strc_order.specs.declared.unit as units
-use Rattle.strc_order.specs.Peaks.{HasNodes}
-use Rattle.strc_rounds.specs.FusedUnits.{RoundUnit}
-use Rattle.strc_rounds.specs.Pieces.{unit_of}
+use Rattle.strc_schedule.specs.declared.unit as units
+use Rattle.strc_schedule.specs.Peaks.{HasNodes}
+use Rattle.strc_dataflow.specs.FusedUnits.{RoundUnit}
+use Rattle.strc_dataflow.specs.Pieces.{unit_of}
 use Rattle.strc_fuse.specs.Units.{round_unit, round_units}
 use Rattle.strc_fiss.specs.Numbers.{up_to, is_dealt, last_part, base}
 use Rattle.strc_fiss.specs.Units.{renamed_unit, split_list, split_unit, split_units}

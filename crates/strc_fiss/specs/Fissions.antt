@@ -3,13 +3,13 @@ use Rattle.std.specs.Prelude.{◌≡◌, ℕ, ◌≤◌, All, length}
 use Rattle.strc_graph.specs.Graphs.{Graph}
 use Rattle.strc_graph.specs.NodeView.{graph_view}
 use Rattle.strc_graph.specs.declared.graph.Fission.{Fission}
-use Rattle.strc_order.specs.Buffers.{size_limit}
-use Rattle.strc_order.specs.Firings.{none_fired}
-use Rattle.strc_order.specs.Greedy as order
-use Rattle.strc_order.specs.Peaks.{AreRaised}
-use Rattle.strc_order.specs.Schedules.{ScheduleParts}
-use Rattle.strc_order.specs.Sizing.{round_rates_on, PassesOn}
-use Rattle.strc_rounds.specs.FusedUnits.{firings_of}
+use Rattle.strc_schedule.specs.Buffers.{size_limit}
+use Rattle.strc_schedule.specs.Firings.{none_fired}
+use Rattle.strc_schedule.specs.Greedy as order
+use Rattle.strc_schedule.specs.Peaks.{AreRaised}
+use Rattle.strc_schedule.specs.Schedules.{ScheduleParts}
+use Rattle.strc_schedule.specs.Sizing.{round_rates_on, PassesOn}
+use Rattle.strc_dataflow.specs.FusedUnits.{firings_of}
 use Rattle.strc_fuse.specs.Fusion.{IsFusion}
 use Rattle.strc_fuse.specs.Units.{round_units}
 use Rattle.strc_fiss.specs.Numbers.{node_limit, base, each_part, origin_of}

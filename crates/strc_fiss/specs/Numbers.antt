@@ -2,8 +2,8 @@
 -- and a gather, in this order.
 use Rattle.std.specs.Prelude.{ℕ, zero, suc, ◌+◌, ◌*◌, Bool, cond, nat_lt, List, [], ◌∷◌, ◌++◌}
 use Rattle.std.specs.Prelude.{get_or}
-use Rattle.strc_rounds.specs.Split.{Parts}
-use Rattle.strc_dealing.specs.Dealing.{share_of}
+use Rattle.strc_dataflow.specs.Split.{Parts}
+use Rattle.strc_admissible.specs.Dealing.{share_of}
 use Rattle.strc_graph.specs.declared.graph.TheConstants.{NODE_LIMIT}
 use Rattle.strc_graph.specs.declared.graph.Fission.{Fission}
 use Rattle.strc_fiss.specs.Ways.{whole}

@@ -4,8 +4,8 @@ use Rattle.std.specs.Prelude.{◌≡◌, ℕ, List, [], ◌∷◌, None}
 use Rattle.strc_graph.specs.Graphs.{Graph, Channel, NodeCode, Filter, FileReader, FileWriter}
 use Rattle.strc_graph.specs.Graphs.{Scatter, Copy, Gather, OfFilter}
 use Rattle.strc_graph.specs.declared.graph.Fission.{Fission}
-use Rattle.strc_dealing.specs.DealingRow.{peeking, two_ways}
-use Rattle.strc_rounds.specs.Pieces.{unit_of}
+use Rattle.strc_admissible.specs.DealingRow.{peeking, two_ways}
+use Rattle.strc_dataflow.specs.Pieces.{unit_of}
 use Rattle.strc_fiss.specs.Numbers.{each_part, origin_of}
 use Rattle.strc_fiss.specs.Splitting.{port, split_graph, split_greatest}
 use Rattle.strc_fiss.specs.Units.{split_units}

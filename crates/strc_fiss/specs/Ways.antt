@@ -9,7 +9,7 @@ use Rattle.strc_graph.specs.Graphs.{Graph, Channel, NodeCode, Filter, Identity, 
 use Rattle.strc_graph.specs.declared.graph.Fission.{Fission}
 use Rattle.strc_balance.specs.Balance.{count_at}
 use Rattle.strc_fuse.specs.Units.{is_outside}
-use Rattle.strc_writes.specs.Stateless.{is_stateless}
+use Rattle.strc_interval.specs.Stateless.{is_stateless}
 
 -- the rates of a filter's work
 abbrev pub work_pop : filters.Filter → ℕ

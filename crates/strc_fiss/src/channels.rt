@@ -14,7 +14,7 @@ ghost use Rattle.strc_fiss.specs.WireView.{wire_view, group_view};
 
 use std::alloc::{AllocError, Global};
 use strc_graph::graph::{Channel, Fission, Graph, Port};
-use strc_order::parts::Schedule;
+use strc_schedule::parts::Schedule;
 
 /// A channel, with its greatest and its last number of items in start-up.
 pub(crate) struct Wire {

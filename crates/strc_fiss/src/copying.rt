@@ -8,7 +8,7 @@ ghost use Rattle.strc_fiss.specs.Splitting.{copied};
 use std::alloc::{AllocError, Global};
 use strc_base::memory::NoMemory;
 use strc_graph::graph::{Copied, Node, Splitter};
-use strc_order::unit::Unit;
+use strc_schedule::unit::Unit;
 
 /// An equal node.
 pub(crate) fn copy_node(alloc: Global, node: &Node) -> Result<Node, NoMemory>

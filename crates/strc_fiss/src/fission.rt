@@ -5,12 +5,12 @@ ghost use Rattle.std.specs.Prelude.{map, slice_get};
 ghost use Rattle.strc_fuse.specs.Units.{round_units};
 ghost use Rattle.strc_graph.specs.Graphs.{IsGraph, JoinsPorts};
 ghost use Rattle.strc_graph.specs.NodeView.{graph_view, node_view};
-ghost use Rattle.strc_order.specs.Buffers.{size_limit};
-ghost use Rattle.strc_order.specs.Firings.{none_fired};
-ghost use Rattle.strc_order.specs.Greedy.{firings_of};
-ghost use Rattle.strc_order.specs.Peaks.{AreRaised, HasNodes};
-ghost use Rattle.strc_order.specs.Sizing.{round_rates_on, PassesOn};
-ghost use Rattle.strc_order.specs.declared.error.ScheduleError.TheVariants as unsized;
+ghost use Rattle.strc_schedule.specs.Buffers.{size_limit};
+ghost use Rattle.strc_schedule.specs.Firings.{none_fired};
+ghost use Rattle.strc_schedule.specs.Greedy.{firings_of};
+ghost use Rattle.strc_schedule.specs.Peaks.{AreRaised, HasNodes};
+ghost use Rattle.strc_schedule.specs.Sizing.{round_rates_on, PassesOn};
+ghost use Rattle.strc_schedule.specs.declared.error.ScheduleError.TheVariants as unsized;
 ghost use Rattle.strc_fiss.specs.Fissions.{IsFission, SplitPasses};
 ghost use Rattle.strc_fiss.specs.Numbers.{node_limit, up_to, share_at, is_dealt, base, each_part};
 ghost use Rattle.strc_fiss.specs.Splitting as spec;
@@ -30,10 +30,10 @@ use std::alloc::Global;
 use strc_balance::counts::Counts;
 use strc_base::memory::NoMemory;
 use strc_graph::graph::{Fission, Graph};
-use strc_order::error::ScheduleError;
-use strc_order::parts::Schedule;
-use strc_order::sizing::sizes;
-use strc_order::unit::Unit;
+use strc_schedule::error::ScheduleError;
+use strc_schedule::parts::Schedule;
+use strc_schedule::sizing::sizes;
+use strc_schedule::unit::Unit;
 
 /// Splits the filters without state of a graph, identities too, among copies.
 ///
@@ -47,7 +47,7 @@ use strc_order::unit::Unit;
 /// The schedule has an entry for each channel, and its round names nodes of the graph. `NodeLimit`
 /// comes where there would be more than 4,096 nodes. `BufferLimit` comes where that isn't so, for
 /// the lowest new channel that would hold more than 16,777,216 items. `NoMemory` can come in place
-/// of any answer, and comes where `sizes` of strc_order says.
+/// of any answer, and comes where `sizes` of strc_schedule says.
 pub fn fission(
     alloc: Global,
     graph: &Graph,

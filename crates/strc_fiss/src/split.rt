@@ -11,7 +11,7 @@ use std::marker::Model;
 use strc_fuse::error::FuseError;
 use strc_fuse::fusing::fuse;
 use strc_graph::graph::Graph;
-use strc_order::parts::Schedule;
+use strc_schedule::parts::Schedule;
 
 /// What a node after fission is a part of.
 #[derive(Clone, Copy)]

@@ -10,7 +10,7 @@ ghost use Rattle.strc_graph.specs.Graphs.{JoinsPorts};
 ghost use Rattle.strc_graph.specs.NodeView.{graph_view, node_view, channel_view};
 ghost use Rattle.strc_semantics.specs.Filters as filters;
 ghost use Rattle.strc_semantics.specs.Filters.{filter_of};
-ghost use Rattle.strc_writes.specs.Stateless.{is_stateless};
+ghost use Rattle.strc_interval.specs.Stateless.{is_stateless};
 ghost use Rattle.strc_fiss.specs.Ways as spec;
 
 use std::alloc::{AllocError, Global};
@@ -18,8 +18,8 @@ use strc_balance::counts::Counts;
 use strc_base::memory::NoMemory;
 use strc_code::code::Code;
 use strc_graph::graph::{Channel, Fission, Graph, Node};
+use strc_rate::stateless::stateless;
 use strc_semantics::body::Body;
-use strc_stateless::stateless::stateless;
 use strc_syntax::tree::ItemType;
 
 /// A node that is not split.

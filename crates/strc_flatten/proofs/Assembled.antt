@@ -2,8 +2,8 @@
 use Rattle.std.proofs.Common.{◌≡◌, List, [], ◌∷◌, map, refl, sym, ap, subst, ◌∙◌, Result}
 use Rattle.std.proofs.Common.{Ok, Err}
 use Rattle.std.specs.Prelude.{IfOk}
-use Rattle.strc_scope.specs.declared.error.ElabError.{ElabError}
-use Rattle.strc_scope.specs.declared.error.ElabError.TheVariants as refusal
+use Rattle.strc_statements.specs.declared.error.ElabError.{ElabError}
+use Rattle.strc_statements.specs.declared.error.ElabErrorKind.TheVariants as refusal
 use Rattle.strc_graph.specs.declared.graph.Node.{Node}
 use Rattle.strc_graph.specs.FlatGraphs.{IsProgram}
 use Rattle.strc_graph.specs.Graphs.{Graph, NodeCode, node_name}
@@ -12,10 +12,10 @@ use Rattle.strc_stream.specs.Connections.{IsConnected}
 use Rattle.strc_stream.specs.Flattening.{IsFlat, tree_of, nodes_of, codes_of, meaning_of}
 use Rattle.strc_stream.specs.Instances.{Stream}
 use Rattle.strc_stream.specs.Types.{IsWellTyped, IsClosed}
-use Rattle.strc_wiring.proofs.Nodes.{nodes_are_codes}
-use Rattle.strc_wiring.proofs.Paths.{wires_connect}
-use Rattle.strc_wiring.proofs.Whole.{wires_are_flat, wires_are_graphs, wires_are_programs}
-use Rattle.strc_wiring.specs.Wires.{wired}
+use Rattle.strc_stream.proofs.Nodes.{nodes_are_codes}
+use Rattle.strc_stream.proofs.Paths.{wires_connect}
+use Rattle.strc_stream.proofs.Whole.{wires_are_flat, wires_are_graphs, wires_are_programs}
+use Rattle.strc_stream.specs.Wires.{wired}
 use Rattle.strc_flatten.specs.Assembly.{IsAssembled, HasNoGraph}
 use Rattle.strc_flatten.specs.Verdicts.{IsAccepted, IsRefused, IsFlattened}
 

@@ -1,7 +1,7 @@
 -- Writers by the bytes between their quotes, one after another.
-use Rattle.std.proofs.Common.{◌≡◌, refl, sym, ap, ◌∙◌, subst, ℕ, ◌+◌, ◌<◌, ◌≤◌, Bool, true, false}
+use Rattle.std.proofs.Common.{◌≡◌, refl, sym, ap, ◌∙◌, ℕ, ◌+◌, ◌<◌, ◌≤◌, Bool, true, false}
 use Rattle.std.proofs.Common.{cond, List, length, Option, Some, None, slice_get, arith, nat_eq, inl}
-use Rattle.std.proofs.Common.{inr, ◌⊎◌, is_some, [], ◌∷◌, ◌++◌}
+use Rattle.std.proofs.Common.{inr, is_some, [], ◌∷◌, ◌++◌}
 use Rattle.std.specs.Map.{lookup}
 use Rattle.std.specs.Cmp.Lexicographic.{pointwise, same_text, nat_list_eq_equiv}
 use Rattle.std.proofs.lemmas.Bool.{cases_eq}

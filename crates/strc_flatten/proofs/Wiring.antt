@@ -13,7 +13,7 @@ use Rattle.strc_stream.specs.Instances.{Stream, Streams, Done, More}
 use Rattle.strc_stream.specs.Types.{splitter_carried}
 use Rattle.strc_stream.specs.Flattening.{size_of}
 use Rattle.strc_stream.specs.View.{streams_view}
-use Rattle.strc_wiring.specs.Wires.{Target, wire, to_port, target_after, split_wires, joiner_wires}
+use Rattle.strc_stream.specs.Wires.{Target, wire, to_port, target_after, split_wires, joiner_wires}
 
 -- where there is a next stream
 pub target_after_some : (next : ℕ) (streams : List declared.Stream) (target : Option Target)

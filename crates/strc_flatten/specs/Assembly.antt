@@ -1,7 +1,7 @@
 -- Whether a graph is made: only where it is one, and its nodes are connected.
 use Rattle.std.specs.Prelude.{◌≡◌, Result, Ok, Err}
-use Rattle.strc_scope.specs.declared.error.ElabError.{ElabError}
-use Rattle.strc_scope.specs.declared.error.ElabError.TheVariants as refusal
+use Rattle.strc_statements.specs.declared.error.ElabError.{ElabError}
+use Rattle.strc_statements.specs.declared.error.ElabErrorKind.TheVariants as refusal
 use Rattle.strc_graph.specs.Connections.{IsConnected}
 use Rattle.strc_graph.specs.Graphs.{Graph, IsGraph}
 use Rattle.strc_graph.specs.NodeView.{GraphParts, graph_view}

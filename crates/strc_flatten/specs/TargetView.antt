@@ -1,6 +1,6 @@
 -- Where items go, as contracts speak of it.
 use Rattle.strc_flatten.specs.declared.channels.Target.{Target}
-use Rattle.strc_wiring.specs.Wires as wires
+use Rattle.strc_stream.specs.Wires as wires
 
 -- a target, by the items that are before what comes
 abbrev pub target_view : Target → wires.Target

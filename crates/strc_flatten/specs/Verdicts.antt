@@ -2,8 +2,8 @@
 use Rattle.std.specs.Prelude.{ℕ, ◌<◌, ◌≤◌, List, length, count_by, Result, Ok, Err, Option, Some}
 use Rattle.std.specs.Prelude.{None}
 use Rattle.strc_graph.specs.declared.graph.TheConstants.{NODE_LIMIT}
-use Rattle.strc_scope.specs.declared.error.ElabError.{ElabError}
-use Rattle.strc_scope.specs.declared.error.ElabError.TheVariants as refusal
+use Rattle.strc_statements.specs.declared.error.ElabError.{ElabError}
+use Rattle.strc_statements.specs.declared.error.ElabErrorKind.TheVariants as refusal
 use Rattle.strc_stream.specs.Instances.{Stream}
 use Rattle.strc_stream.specs.Connections.{IsConnected}
 use Rattle.strc_stream.specs.Flattening.{codes_of, meaning_of}

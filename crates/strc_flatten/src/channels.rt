@@ -8,7 +8,7 @@ ghost use Rattle.strc_semantics.specs.Filters.{filter_of};
 ghost use Rattle.strc_stream.specs.View.{stream_view, streams_view};
 ghost use Rattle.strc_stream.specs.Types.{splitter_carried, is_int};
 ghost use Rattle.strc_stream.specs.Flattening.{size_of, row_nodes, splitter_nodes};
-ghost use Rattle.strc_wiring.specs.Wires as wiring;
+ghost use Rattle.strc_stream.specs.Wires as wiring;
 ghost use Rattle.strc_flatten.specs.HasNodes.{HasNodes, HaveNodes};
 ghost use Rattle.strc_flatten.specs.TargetView.{target_view};
 ghost use Rattle.strc_flatten.specs.Verdicts.{node_limit};
@@ -69,6 +69,7 @@ pub(crate) fn wire(
             let to_joiner = back(first, enqueued);
             wire(alloc, split + 1, loop_stream, to_joiner, channels)?;
         }
+        Stream::Placed(_, inner) => wire(alloc, first, inner, target, channels)?,
     }
     Ok(())
 }

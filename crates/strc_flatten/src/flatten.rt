@@ -8,7 +8,7 @@ ghost use Rattle.strc_graph.specs.FlatGraphs.{IsProgram};
 ghost use Rattle.strc_stream.specs.Types.{IsWellTyped, IsClosed};
 ghost use Rattle.strc_stream.specs.View.{stream_view};
 ghost use Rattle.strc_stream.specs.Flattening.{IsFlat, tree_of, nodes_of, outer_loops};
-ghost use Rattle.strc_wiring.specs.Wires.{wired};
+ghost use Rattle.strc_stream.specs.Wires.{wired};
 ghost use Rattle.strc_flatten.specs.HasNodes.{HasNodes};
 ghost use Rattle.strc_flatten.specs.Assembly.{IsAssembled};
 ghost use Rattle.strc_flatten.specs.Verdicts.{IsFlattened, node_limit};
@@ -22,7 +22,7 @@ use crate::parts::has_nodes;
 use std::alloc::Global;
 use strc_graph::condition::is_graph;
 use strc_graph::graph::{Channel, Graph, Node};
-use strc_scope::error::ElabError;
+use strc_statements::error::{ElabError, ElabErrorKind};
 use strc_stream::stream::Stream;
 
 /// The flat graph of a stream: its nodes in preorder, and the channels between their ports, in
@@ -51,7 +51,7 @@ pub fn flatten(alloc: Global, stream: &Stream) -> Result<Graph, ElabError>
     collect(alloc, stream, &mut nodes)?;
     match check(alloc, &nodes) {
         // Such a stream isn't well typed.
-        Ok(()) if !has_nodes(stream) => Err(ElabError::Disconnected),
+        Ok(()) if !has_nodes(stream) => Err(ElabError::from(ElabErrorKind::Disconnected)),
         Ok(()) => graph_of(alloc, stream, nodes),
         Err(refusal) => Err(refusal),
     }
@@ -83,10 +83,10 @@ fn connected_graph(
         (graph_view (parts_of nodes.items channels.items outer_loops.items)) result }
 {
     if !is_graph(&nodes, &channels, &outer_loops) {
-        return Err(ElabError::Disconnected);
+        return Err(ElabError::from(ElabErrorKind::Disconnected));
     }
     if !are_connected(alloc, nodes.len() as u32, &channels)? {
-        return Err(ElabError::Disconnected);
+        return Err(ElabError::from(ElabErrorKind::Disconnected));
     }
     Ok(Graph::new(nodes, channels, outer_loops))
 }

@@ -8,20 +8,20 @@ ghost use Rattle.strc_flatten.specs.Verdicts.{IsVerdict};
 use crate::tapes::first_repeat;
 use std::alloc::Global;
 use strc_graph::graph::{NODE_LIMIT, Node};
-use strc_scope::error::ElabError;
+use strc_statements::error::{ElabError, ElabErrorKind};
 
 /// Whether a graph can have these nodes, by the first test that fails.
 pub(crate) fn check(alloc: Global, nodes: &[Node]) -> Result<(), ElabError>
     ensures { IsVerdict (map node_view nodes.now) (Unit {0}) result }
 {
     if nodes.len() > NODE_LIMIT as usize {
-        return Err(ElabError::NodeLimit);
+        return Err(ElabError::from(ElabErrorKind::NodeLimit));
     }
     if count_inputs(nodes) > 1 {
-        return Err(ElabError::TwoInputs);
+        return Err(ElabError::from(ElabErrorKind::TwoInputs));
     }
     match first_repeat(alloc, nodes)? {
-        Some(node) => Err(ElabError::TapeTwice { node }),
+        Some(node) => Err(ElabError::from(ElabErrorKind::TapeTwice { node })),
         None => Ok(()),
     }
 }

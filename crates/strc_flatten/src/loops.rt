@@ -37,6 +37,7 @@ pub(crate) fn push_loops(
             repeat(None, joiner_count(joiner), loops)?;
         }
         Stream::FeedbackLoop(_, _, _, _, _) => repeat(Some(first), size(stream), loops)?,
+        Stream::Placed(_, inner) => push_loops(first, inner, loops)?,
     }
     Ok(())
 }

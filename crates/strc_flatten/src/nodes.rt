@@ -36,6 +36,7 @@ pub(crate) fn collect(alloc: Global, stream: &Stream, nodes: &mut Vec<Node>) -> 
             nodes.push(Node::Splitter(copy_splitter(alloc, splitter)?))?;
             collect(alloc, loop_stream, nodes)?;
         }
+        Stream::Placed(_, inner) => collect(alloc, inner, nodes)?,
     }
     Ok(())
 }

@@ -21,6 +21,7 @@ pub(crate) fn has_nodes(stream: &Stream) -> bool
         Stream::FeedbackLoop(_, body, _, loop_stream, _) => {
             has_nodes(body) && has_nodes(loop_stream)
         }
+        Stream::Placed(_, inner) => has_nodes(inner),
     }
 }
 

@@ -23,6 +23,7 @@ pub(crate) fn size(stream: &Stream) -> u32
             splitter_count(splitter) + row_size(children) + joiner_count(joiner)
         }
         Stream::FeedbackLoop(_, body, _, loop_stream, _) => size(body) + size(loop_stream) + 2,
+        Stream::Placed(_, inner) => size(inner),
     }
 }
 

@@ -3,13 +3,13 @@ use Rattle.std.proofs.Common.{◌≡◌, refl, sym, ap, ◌∙◌, ℕ, zero, su
 use Rattle.std.proofs.Common.{◌++◌, map, arith, inl, inr, ◌⊎◌, Bool, true, false, cond, eqb}
 use Rattle.std.proofs.lemmas.Bool.{cases_lt}
 use Rattle.strc_dataflow.specs.Order as generic
-use Rattle.strc_order.specs.declared.unit as units
-use Rattle.strc_order.specs.Greedy as order
-use Rattle.strc_order.specs.Order as order_lists
-use Rattle.strc_order.specs.Order.{firing_count}
-use Rattle.strc_order.proofs.FiringCounts.{firing_count_append}
-use Rattle.strc_rounds.specs.Fused.{repeated}
-use Rattle.strc_rounds.specs.FusedUnits.{RoundUnit, firings_of, nodes_of, joined_unit}
+use Rattle.strc_schedule.specs.declared.unit as units
+use Rattle.strc_schedule.specs.Greedy as order
+use Rattle.strc_schedule.specs.Order as order_lists
+use Rattle.strc_schedule.specs.Order.{firing_count}
+use Rattle.strc_schedule.proofs.FiringCounts.{firing_count_append}
+use Rattle.strc_dataflow.specs.Fused.{repeated}
+use Rattle.strc_dataflow.specs.FusedUnits.{RoundUnit, firings_of, nodes_of, joined_unit}
 use Rattle.strc_fuse.specs.Units.{round_unit, round_units}
 
 -- both layers count alike

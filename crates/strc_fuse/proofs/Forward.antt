@@ -21,12 +21,12 @@ use Rattle.strc_stream.specs.Flattening.{outer_loops, row_loops, tree_of}
 use Rattle.strc_stream.proofs.OneGraph.{one_graph}
 use Rattle.strc_startup.specs.Rates.{rates_of, rates_of_channel}
 use Rattle.strc_startup.specs.declared.channel_rates.ChannelRates.{ChannelRates}
-use Rattle.strc_order.specs.Ranges.{IsOuter}
-use Rattle.strc_wiring.specs.Wires.{Target, wire, wires, row_wires, branch_wires, splitter_wires}
-use Rattle.strc_wiring.specs.Wires.{joiner_wires, split_wires, to_port, target_after, wired}
-use Rattle.strc_wiring.proofs.Channels.{each_append, each_follows, each_all}
-use Rattle.strc_wiring.proofs.Loops.{loops_are_by_node}
-use Rattle.strc_wiring.proofs.Whole.{wires_are_flat}
+use Rattle.strc_schedule.specs.Ranges.{IsOuter}
+use Rattle.strc_stream.specs.Wires.{Target, wire, wires, row_wires, branch_wires, splitter_wires}
+use Rattle.strc_stream.specs.Wires.{joiner_wires, split_wires, to_port, target_after, wired}
+use Rattle.strc_stream.proofs.Channels.{each_append, each_follows, each_all}
+use Rattle.strc_stream.proofs.Loops.{loops_are_by_node}
+use Rattle.strc_stream.proofs.Whole.{wires_are_flat}
 
 -- what a stream gives goes to no node below a bound
 abbrev pub TargetFrom : (bound : ℕ) → Option Target → Type 0

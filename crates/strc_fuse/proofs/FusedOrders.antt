@@ -7,15 +7,15 @@ use Rattle.std.proofs.lemmas.Bool.{cases_lt}
 use Rattle.std.proofs.Math.Nat.{mul-div_cancel_left}
 use Rattle.strc_startup.specs.Startup.{popped, supply}
 use Rattle.strc_startup.specs.declared.channel_rates.ChannelRates.{ChannelRates}
-use Rattle.strc_order.specs.Firings.{Firings}
-use Rattle.strc_order.specs.Order.{firing_count, IsOrder}
-use Rattle.strc_order.specs.Rounds.{IsPastPrework, RoundBalances}
-use Rattle.strc_order.proofs.FiringCounts.{firing_count_append}
-use Rattle.strc_rounds.specs.Fused.{repeated}
-use Rattle.strc_rounds.specs.FusedUnits.{RoundUnit, firings_of, nodes_of, joined_unit, AreFree}
-use Rattle.strc_rounds.specs.FusedUnits.{IsFused, AreFused}
-use Rattle.strc_rounds.proofs.Merging.{fused_passes}
-use Rattle.strc_rounds.proofs.Passing.{IsClear, IsForward}
+use Rattle.strc_schedule.specs.Firings.{Firings}
+use Rattle.strc_schedule.specs.Order.{firing_count, IsOrder}
+use Rattle.strc_schedule.specs.Rounds.{IsPastPrework, RoundBalances}
+use Rattle.strc_schedule.proofs.FiringCounts.{firing_count_append}
+use Rattle.strc_dataflow.specs.Fused.{repeated}
+use Rattle.strc_dataflow.specs.FusedUnits.{RoundUnit, firings_of, nodes_of, joined_unit, AreFree}
+use Rattle.strc_dataflow.specs.FusedUnits.{IsFused, AreFused}
+use Rattle.strc_dataflow.proofs.Merging.{fused_passes}
+use Rattle.strc_dataflow.proofs.Passing.{IsClear, IsForward}
 use Rattle.strc_fuse.specs.Units.{IsPlaced, ArePlaced}
 use Rattle.strc_fuse.proofs.Channels.{link_of, order_on, order_from, passes_from, from_passes}
 use Rattle.strc_fuse.proofs.Channels.{sum_gives, sum_taken}

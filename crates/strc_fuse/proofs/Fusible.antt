@@ -10,20 +10,20 @@ use Rattle.strc_graph.specs.Rates.{fires_by_rounds}
 use Rattle.strc_balance.specs.Balance.{count_at}
 use Rattle.strc_startup.specs.Rates.{rates_of, rates_of_channel}
 use Rattle.strc_startup.specs.declared.channel_rates.ChannelRates.{ChannelRates}
-use Rattle.strc_order.specs.declared.unit as units
-use Rattle.strc_order.specs.Buffers.{buffer_size, peak_fill}
-use Rattle.strc_order.specs.Firings.{Firings, none_fired, fill}
-use Rattle.strc_order.specs.Greedy as order
-use Rattle.strc_order.specs.Order.{firing_count, IsOrder}
-use Rattle.strc_order.specs.Peaks.{AreRaised}
-use Rattle.strc_order.specs.RoundRates.{is_copy}
-use Rattle.strc_order.specs.Rounds.{IsPastPrework, RoundBalances}
-use Rattle.strc_order.specs.Schedules.{ScheduleParts, IsRunnable, IsOrderOf}
-use Rattle.strc_order.specs.Sizing.{IsCovered, HasFills, round_rates_on, all_rates_on}
-use Rattle.strc_order.proofs.Continuing.{raised_on}
-use Rattle.strc_order.proofs.RoundRates.{round_rates_are_rates}
-use Rattle.strc_order.proofs.Runnable.{raised_are_sizes}
-use Rattle.strc_rounds.specs.FusedUnits.{RoundUnit, AreFused, firings_of}
+use Rattle.strc_schedule.specs.declared.unit as units
+use Rattle.strc_schedule.specs.Buffers.{buffer_size, peak_fill}
+use Rattle.strc_schedule.specs.Firings.{Firings, none_fired, fill}
+use Rattle.strc_schedule.specs.Greedy as order
+use Rattle.strc_schedule.specs.Order.{firing_count, IsOrder}
+use Rattle.strc_schedule.specs.Peaks.{AreRaised}
+use Rattle.strc_schedule.specs.RoundRates.{is_copy}
+use Rattle.strc_schedule.specs.Rounds.{IsPastPrework, RoundBalances}
+use Rattle.strc_schedule.specs.Schedules.{ScheduleParts, IsRunnable, IsOrderOf}
+use Rattle.strc_schedule.specs.Sizing.{IsCovered, HasFills, round_rates_on, all_rates_on}
+use Rattle.strc_schedule.proofs.Continuing.{raised_on}
+use Rattle.strc_schedule.proofs.RoundRates.{round_rates_are_rates}
+use Rattle.strc_schedule.proofs.Runnable.{raised_are_sizes}
+use Rattle.strc_dataflow.specs.FusedUnits.{RoundUnit, AreFused, firings_of}
 use Rattle.strc_fuse.specs.Fusion.{IsFusible}
 use Rattle.strc_fuse.specs.Units.{is_free, round_units, ArePlaced}
 use Rattle.strc_fuse.proofs.Counting.{firings_same}

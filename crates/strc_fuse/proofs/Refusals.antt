@@ -3,12 +3,12 @@ use Rattle.std.proofs.Common.{◌≡◌, sym, ◌∙◌, subst, ℕ, List, Resul
 use Rattle.std.specs.Result.{IsErr, IsErrAnd}
 use mathlib.Core.Path.{Path}
 use Rattle.strc_graph.specs.Graphs.{Graph}
-use Rattle.strc_order.specs.declared.unit as units
-use Rattle.strc_order.specs.Firings.{none_fired}
-use Rattle.strc_order.specs.Greedy as order
-use Rattle.strc_order.specs.Schedules.{ScheduleParts}
-use Rattle.strc_order.specs.Sizing.{PassesOn, round_rates_on}
-use Rattle.strc_rounds.specs.FusedUnits.{AreFused}
+use Rattle.strc_schedule.specs.declared.unit as units
+use Rattle.strc_schedule.specs.Firings.{none_fired}
+use Rattle.strc_schedule.specs.Greedy as order
+use Rattle.strc_schedule.specs.Schedules.{ScheduleParts}
+use Rattle.strc_schedule.specs.Sizing.{PassesOn, round_rates_on}
+use Rattle.strc_dataflow.specs.FusedUnits.{AreFused}
 use Rattle.strc_fuse.specs.Fusion.{FusedPass}
 use Rattle.strc_fuse.specs.Units.{is_free, round_units}
 use Rattle.strc_fuse.specs.declared.error.FuseError.{FuseError}

@@ -7,8 +7,8 @@ use Rattle.std.specs.Int.{IsGcd}
 use Rattle.std.proofs.lemmas.Bool.{cases_lt}
 use Rattle.std.proofs.lemmas.Nat.Gcd.{same_from_IsGcd}
 use Rattle.std.proofs.Math.Nat.{mul-div_cancel_left}
-use Rattle.strc_rounds.specs.Fused.{repeated}
-use Rattle.strc_rounds.specs.FusedUnits.{RoundUnit, AreFree, Joins, IsFused, joined_unit}
+use Rattle.strc_dataflow.specs.Fused.{repeated}
+use Rattle.strc_dataflow.specs.FusedUnits.{RoundUnit, AreFree, Joins, IsFused, joined_unit}
 use Rattle.strc_fuse.specs.Steps.{AreShares, AreTooLong, GoesOn}
 use Rattle.strc_fuse.specs.declared.joining.Shares.{Shares}
 

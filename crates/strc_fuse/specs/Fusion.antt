@@ -7,15 +7,15 @@ use Rattle.strc_semantics.specs.declared.word.Word.{Word}
 use Rattle.strc_graph.specs.Graphs.{Graph, NodeCode}
 use Rattle.strc_graph.specs.Meaning.{node_meaning}
 use Rattle.strc_startup.specs.declared.channel_rates.ChannelRates.{ChannelRates}
-use Rattle.strc_order.specs.Buffers.{size_limit}
-use Rattle.strc_order.specs.Firings.{Firings, none_fired}
-use Rattle.strc_order.specs.Greedy as order
-use Rattle.strc_order.specs.Peaks.{AreRaised}
-use Rattle.strc_order.specs.Rounds.{IsPastPrework, RoundBalances}
-use Rattle.strc_order.specs.Schedules.{ScheduleParts, IsRunnable}
-use Rattle.strc_order.specs.Sizing.{IsCovered, round_rates_on, PassesOn}
-use Rattle.strc_rounds.specs.FusedUnits.{RoundUnit, AreFused, firings_of}
-use Rattle.strc_rounds.specs.Same.{gone, IsValid}
+use Rattle.strc_schedule.specs.Buffers.{size_limit}
+use Rattle.strc_schedule.specs.Firings.{Firings, none_fired}
+use Rattle.strc_schedule.specs.Greedy as order
+use Rattle.strc_schedule.specs.Peaks.{AreRaised}
+use Rattle.strc_schedule.specs.Rounds.{IsPastPrework, RoundBalances}
+use Rattle.strc_schedule.specs.Schedules.{ScheduleParts, IsRunnable}
+use Rattle.strc_schedule.specs.Sizing.{IsCovered, round_rates_on, PassesOn}
+use Rattle.strc_dataflow.specs.FusedUnits.{RoundUnit, AreFused, firings_of}
+use Rattle.strc_dataflow.specs.Same.{gone, IsValid}
 use Rattle.strc_fuse.specs.Units.{is_free, round_units, ArePlaced}
 
 -- the same start-up, and a round of fused units with lists of at most so many entries; the size of

@@ -8,13 +8,13 @@ use Rattle.strc_stream.specs.Flattening.{tree_of, outer_loops}
 use Rattle.strc_balance.specs.Balance.{count_at}
 use Rattle.strc_startup.specs.Rates.{rates_of}
 use Rattle.strc_startup.specs.declared.channel_rates.ChannelRates.{ChannelRates}
-use Rattle.strc_order.specs.Firings.{Firings}
-use Rattle.strc_order.specs.Greedy.{IsGreedyOrder}
-use Rattle.strc_order.specs.Order.{firing_count, IsOrder}
-use Rattle.strc_order.specs.Peaks.{HasNodes}
-use Rattle.strc_order.specs.Rounds.{IsPastPrework, RoundBalances}
-use Rattle.strc_order.specs.Schedules.{ScheduleParts, IsSchedule}
-use Rattle.strc_rounds.specs.FusedUnits.{RoundUnit, AreFused, firings_of}
+use Rattle.strc_schedule.specs.Firings.{Firings}
+use Rattle.strc_schedule.specs.Greedy.{IsGreedyOrder}
+use Rattle.strc_schedule.specs.Order.{firing_count, IsOrder}
+use Rattle.strc_schedule.specs.Peaks.{HasNodes}
+use Rattle.strc_schedule.specs.Rounds.{IsPastPrework, RoundBalances}
+use Rattle.strc_schedule.specs.Schedules.{ScheduleParts, IsSchedule}
+use Rattle.strc_dataflow.specs.FusedUnits.{RoundUnit, AreFused, firings_of}
 use Rattle.strc_fuse.specs.Fusion.{IsFusible}
 use Rattle.strc_fuse.specs.Units.{is_free, round_units, ArePlaced}
 

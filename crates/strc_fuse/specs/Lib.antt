@@ -4,3 +4,5 @@ pub mod Rows
 pub mod Sentences
 pub mod Steps
 pub mod Units
+pub mod Fusions
+pub mod FusedLaws

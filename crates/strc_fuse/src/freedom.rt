@@ -3,7 +3,7 @@
 ghost use Rattle.std.specs.Prelude.{◌≡◌, ◌<◌, All, MatchBool, length};
 ghost use Rattle.strc_graph.specs.NodeView.{graph_view, node_view};
 ghost use Rattle.strc_graph.specs.Rates as spec;
-ghost use Rattle.strc_rounds.specs.FusedUnits.{AreFree};
+ghost use Rattle.strc_dataflow.specs.FusedUnits.{AreFree};
 ghost use Rattle.strc_fuse.specs.Units.{is_free};
 
 use strc_graph::graph::{Graph, Node};

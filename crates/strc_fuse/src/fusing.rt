@@ -9,17 +9,17 @@ ghost use Rattle.strc_graph.specs.Meaning.{node_meaning};
 ghost use Rattle.strc_graph.specs.NodeView.{graph_view};
 ghost use Rattle.strc_startup.specs.Rates.{rates_of};
 ghost use Rattle.strc_startup.specs.declared.channel_rates.ChannelRates.{ChannelRates};
-ghost use Rattle.strc_order.specs.Buffers.{size_limit};
-ghost use Rattle.strc_order.specs.Firings.{Firings, none_fired};
-ghost use Rattle.strc_order.specs.Greedy.{firings_of};
-ghost use Rattle.strc_order.specs.Order.{firing_count, IsOrder};
-ghost use Rattle.strc_order.specs.Peaks.{AreRaised, HasNodes};
-ghost use Rattle.strc_order.specs.RoundRates.{is_copy};
-ghost use Rattle.strc_order.specs.Rounds.{IsPastPrework, RoundBalances};
-ghost use Rattle.strc_order.specs.Sizing.{round_rates_on, PassesOn};
-ghost use Rattle.strc_order.specs.declared.error.ScheduleError.TheVariants as unsized;
-ghost use Rattle.strc_rounds.specs.FusedUnits.{AreFused};
-ghost use Rattle.strc_rounds.specs.Same.{IsWired};
+ghost use Rattle.strc_schedule.specs.Buffers.{size_limit};
+ghost use Rattle.strc_schedule.specs.Firings.{Firings, none_fired};
+ghost use Rattle.strc_schedule.specs.Greedy.{firings_of};
+ghost use Rattle.strc_schedule.specs.Order.{firing_count, IsOrder};
+ghost use Rattle.strc_schedule.specs.Peaks.{AreRaised, HasNodes};
+ghost use Rattle.strc_schedule.specs.RoundRates.{is_copy};
+ghost use Rattle.strc_schedule.specs.Rounds.{IsPastPrework, RoundBalances};
+ghost use Rattle.strc_schedule.specs.Sizing.{round_rates_on, PassesOn};
+ghost use Rattle.strc_schedule.specs.declared.error.ScheduleError.TheVariants as unsized;
+ghost use Rattle.strc_dataflow.specs.FusedUnits.{AreFused};
+ghost use Rattle.strc_dataflow.specs.Same.{IsWired};
 ghost use Rattle.strc_fuse.specs.Fusion.{FusedPass, IsFusible, DoTheSame};
 ghost use Rattle.strc_fuse.specs.Units.{is_free, round_units, ArePlaced};
 ghost use Rattle.strc_fuse.specs.declared.error.FuseError.TheVariants as refused;
@@ -28,10 +28,10 @@ use crate::error::FuseError;
 use crate::units::fused_units;
 use std::alloc::Global;
 use strc_graph::graph::Graph;
-use strc_order::error::ScheduleError;
-use strc_order::parts::Schedule;
-use strc_order::sizing::sizes;
-use strc_order::unit::Unit;
+use strc_schedule::error::ScheduleError;
+use strc_schedule::parts::Schedule;
+use strc_schedule::sizing::sizes;
+use strc_schedule::unit::Unit;
 
 /// Fuses the units of a schedule's round, and sizes the buffers anew.
 ///
@@ -44,7 +44,7 @@ use strc_order::unit::Unit;
 ///
 /// The schedule has an entry for each channel, and its round names nodes of the graph.
 /// `BufferLimit` comes for the lowest channel that would hold more than 16,777,216 items then;
-/// `NoMemory` can come in place of any answer, and comes where `sizes` of strc_order says. The
+/// `NoMemory` can come in place of any answer, and comes where `sizes` of strc_schedule says. The
 /// schedule is then as before.
 pub fn fuse(
     alloc: Global,

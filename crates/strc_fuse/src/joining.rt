@@ -5,7 +5,7 @@ ghost use Rattle.std.specs.Int.{IsGcd};
 ghost use Rattle.strc_fuse.specs.Steps.{AreShares, AreTooLong};
 ghost use Rattle.strc_fuse.specs.Units.{round_unit};
 
-use strc_order::unit::Unit;
+use strc_schedule::unit::Unit;
 
 /// How two units fire by turns: together so often, and in each turn the list of each so often.
 #[derive(Clone, Copy)]

@@ -2,8 +2,8 @@
 
 ghost use Rattle.std.specs.Prelude.{◌≡◌, All, IfOk, IfSome, IfNone, OnOk, true, length};
 ghost use Rattle.strc_graph.specs.NodeView.{graph_view};
-ghost use Rattle.strc_order.specs.Peaks.{HasNodes};
-ghost use Rattle.strc_rounds.specs.FusedUnits.{AreFused, IsFused, joined_unit};
+ghost use Rattle.strc_schedule.specs.Peaks.{HasNodes};
+ghost use Rattle.strc_dataflow.specs.FusedUnits.{AreFused, IsFused, joined_unit};
 ghost use Rattle.strc_fuse.specs.Steps.{AreShares, AreTooLong, IsMarked, GoesOn};
 ghost use Rattle.strc_fuse.specs.Units.{is_free, round_unit, round_units};
 
@@ -13,7 +13,7 @@ use crate::lists::{append, copy_of, repeat};
 use std::alloc::{AllocError, Global};
 use std::mem;
 use strc_graph::graph::Graph;
-use strc_order::unit::Unit;
+use strc_schedule::unit::Unit;
 
 /// The last of the units so far, to which more may be joined, and whether all its nodes may be
 /// fused.

@@ -21,3 +21,4 @@ pub mod CompositionSoundness
 pub mod TreeSoundness
 pub mod ProgramSoundness
 pub mod Exact
+pub mod Loops

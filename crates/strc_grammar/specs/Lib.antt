@@ -2,3 +2,6 @@ pub mod Grammar
 pub mod Reading
 pub mod Streams
 pub mod Sentences
+pub mod Seen
+pub mod Readers
+pub mod Part

@@ -1,3 +1,5 @@
 pub mod Narrowing
 pub mod LoopValues
 pub mod IntervalGrowth
+pub mod Growth
+pub mod Walks

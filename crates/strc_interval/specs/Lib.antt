@@ -2,3 +2,5 @@ pub mod Constant
 pub mod Loops
 pub mod Intervals
 pub mod Seen
+pub mod Stateless
+pub mod Walk

@@ -81,6 +81,7 @@ fn first_of<'a>(first: &'a Stmt, names: &IntervalScope) -> Option<First<'a>>
             let value = constant(value)?;
             Some(First { name, value })
         }
+        Stmt::Placed(_, inner) => first_of(inner, names),
         _ => None,
     }
 }
@@ -179,6 +180,7 @@ fn move_of(step: &Stmt, name: &Name) -> Option<i64>
                 None
             }
         }
+        Stmt::Placed(_, inner) => move_of(inner, name),
         _ => None,
     }
 }

@@ -41,6 +41,7 @@ pub fn statement_writes(statement: &Stmt, name: &Name) -> bool
     match statement {
         Stmt::Empty | Stmt::Compose(_) => false,
         Stmt::Block(body) => block_writes(body, name),
+        Stmt::Placed(_, inner) => statement_writes(inner, name),
         Stmt::Declare(declared) => variables_write(&declared.variables, name),
         Stmt::Assign(assigned, _, value) => {
             same_name(assigned, name) || expression_writes(value, name)
@@ -74,6 +75,7 @@ fn shadows(statement: &Stmt, name: &Name) -> bool
 {
     match statement {
         Stmt::Declare(declared) => declares(&declared.variables, name),
+        Stmt::Placed(_, inner) => shadows(inner, name),
         _ => false,
     }
 }

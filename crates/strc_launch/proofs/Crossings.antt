@@ -4,13 +4,13 @@ use Rattle.std.proofs.Common.{false, List, [], ◌∷◌, length, map, arith}
 use Rattle.std.specs.Prelude.{eqb, if◌then◌else◌, ◌&&◌}
 use Rattle.strc_graph.specs.Graphs.{Channel, NodeCode, gives_words}
 use Rattle.strc_graph.specs.Tapes.{tape_nodes_from}
-use Rattle.strc_circuit.specs.Parts.{is_within}
+use Rattle.strc_rings.specs.Parts.{is_within}
 use Rattle.strc_stage.specs.Plans.{PlanParts, transformed_of}
-use Rattle.strc_staging.specs.Ranges.{stage_within}
+use Rattle.strc_dataflow.specs.Ranges.{stage_within}
 use Rattle.strc_staged.specs.Beginnings.{crosses, crossings_from, entering_at, leaving_at}
 use Rattle.strc_staged.specs.Beginnings.{ends_in, begins_in, rooms_of, tapes_from}
 use Rattle.strc_staged.specs.Blocks.{raised}
-use Rattle.strc_split_rings.specs.Plans.{IsCut, running_of}
+use Rattle.strc_staged.specs.Plans.{IsCut, running_of}
 use Rattle.strc_staged.specs.declared.crossing.Crossing.{Crossing}
 use Rattle.strc_staged.specs.declared.crossing.TapeOf.{TapeOf}
 use Rattle.strc_stages.specs.Blocks as blocks

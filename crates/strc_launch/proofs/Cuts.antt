@@ -2,15 +2,15 @@
 use Rattle.std.proofs.Common.{◌≡◌, refl, sym, ap, ◌∙◌, subst, ℕ, suc, ◌<◌, ◌≤◌, List, []}
 use Rattle.std.proofs.Common.{◌∷◌, length, map, arith}
 use Rattle.strc_graph.specs.Graphs.{Channel}
-use Rattle.strc_rounds.specs.FusedUnits.{RoundUnit}
+use Rattle.strc_dataflow.specs.FusedUnits.{RoundUnit}
 use Rattle.strc_fuse.specs.Units.{round_units}
 use Rattle.strc_stage.specs.Plans.{IsPlan, PlanParts, graph_of, transformed_of}
-use Rattle.strc_cut.specs.Bounds.{stage_bound, stage_bounds, stage_count}
-use Rattle.strc_cut.specs.Cuts.{IsBetweenGroups, IsBetweenUnits}
-use Rattle.strc_cut.proofs.Shares.{bounds_are_listed}
+use Rattle.strc_stage.specs.Bounds.{stage_bound, stage_bounds, stage_count}
+use Rattle.strc_stage.specs.Cuts.{IsBetweenGroups, IsBetweenUnits}
+use Rattle.strc_stage.proofs.Shares.{bounds_are_listed}
 use Rattle.strc_staged.specs.Runnings.{round_pushes}
-use Rattle.strc_split_rings.specs.Plans.{IsCut, running_of}
-use Rattle.strc_split_rings.proofs.Plans.{plan_bounds_are_a_cut}
+use Rattle.strc_staged.specs.Plans.{IsCut, running_of}
+use Rattle.strc_staged.proofs.Plans.{plan_bounds_are_a_cut}
 use Rattle.strc_launch.specs.Bounds.{bound_in, last_of}
 use Rattle.strc_launch.specs.Links.{link_of, room_of}
 

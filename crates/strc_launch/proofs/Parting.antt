@@ -16,13 +16,13 @@ use Rattle.strc_admissible.specs.Machine.{CircuitView, MachineView, words_at}
 use Rattle.strc_admissible.specs.Rings.{Ring, ring_at}
 use Rattle.strc_admissible.specs.Wiring.{PortRings, ports_at}
 use Rattle.strc_admissible.proofs.Supplies.{element}
-use Rattle.strc_circuit.specs.Parts.{IsOutside, IsPartOf, IsPartCircuit}
-use Rattle.strc_circuit.proofs.PartCircuits.{parts_are_part_circuits}
+use Rattle.strc_rings.specs.Parts.{IsOutside, IsPartOf, IsPartCircuit}
+use Rattle.strc_rings.proofs.PartCircuits.{parts_are_part_circuits}
 use Rattle.strc_runner.specs.Parts.{IsPart}
 use Rattle.strc_stage.specs.Plans.{PlanParts, transformed_of}
 use Rattle.strc_staged.specs.Beginnings.{IsCircuitOf, IsMachineOf, is_own}
 use Rattle.strc_staged.specs.Runnings.{round_pushes}
-use Rattle.strc_split_rings.specs.Plans.{running_of}
+use Rattle.strc_staged.specs.Plans.{running_of}
 use Rattle.strc_launch.specs.Bounds.{bound_in, last_of}
 use Rattle.strc_launch.specs.Cuts.{IsCutAt}
 use Rattle.strc_launch.proofs.Ranges.{own_from, own_below, is_outside}

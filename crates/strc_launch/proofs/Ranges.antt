@@ -4,11 +4,11 @@ use Rattle.std.proofs.Common.{Bool, true, false, cond, leb, arith, inl, inr, len
 use Rattle.std.specs.Prelude.{eqb}
 use Rattle.std.proofs.lemmas.Bool.{cases_order, cases_lt, eq-eqb, eqb-true, le-leb, lt-leb}
 use Rattle.strc_stage.specs.Plans.{PlanParts, transformed_of}
-use Rattle.strc_circuit.specs.Parts.{IsOutside, is_within}
-use Rattle.strc_circuit.proofs.PartLists.{within_true, within_false}
-use Rattle.strc_split_rings.specs.Plans.{IsCut}
-use Rattle.strc_staging.specs.Ranges.{stage_within}
-use Rattle.strc_staging.proofs.Ranges.{bounds_from, within_at_most, within_from, within_below}
+use Rattle.strc_rings.specs.Parts.{IsOutside, is_within}
+use Rattle.strc_rings.proofs.PartLists.{within_true, within_false}
+use Rattle.strc_staged.specs.Plans.{IsCut}
+use Rattle.strc_dataflow.specs.Ranges.{stage_within}
+use Rattle.strc_dataflow.proofs.Ranges.{bounds_from, within_at_most, within_from, within_below}
 
 module _ (bound : ℕ → ℕ) where
   -- one stage after another

@@ -2,12 +2,12 @@
 use Rattle.std.proofs.Common.{◌≡◌, ap, ◌∙◌, ℕ, zero, suc, ◌+◌, ◌*◌, ◌<◌, List, [], ◌∷◌}
 use Rattle.std.proofs.Common.{length, get_or, take, inl, inr, arith}
 use Rattle.std.proofs.lemmas.Bool.{cases_eq}
-use Rattle.strc_order.specs.Firings.{turns_of}
-use Rattle.strc_order.specs.Greedy.{firings_of}
-use Rattle.strc_order.specs.Order.{firing_count, repeated}
-use Rattle.strc_order.specs.declared.unit as units
-use Rattle.strc_order.proofs.FiringCounts.{firing_count_append, turns_same, turns_other}
-use Rattle.strc_order.proofs.Passing.{list_more, units_more}
+use Rattle.strc_schedule.specs.Firings.{turns_of}
+use Rattle.strc_schedule.specs.Greedy.{firings_of}
+use Rattle.strc_schedule.specs.Order.{firing_count, repeated}
+use Rattle.strc_schedule.specs.declared.unit as units
+use Rattle.strc_schedule.proofs.FiringCounts.{firing_count_append, turns_same, turns_other}
+use Rattle.strc_schedule.proofs.Passing.{list_more, units_more}
 
 turns_times : (turns node other : ℕ) → turns_of turns node other ≡ turns * turns_of 1 node other
 turns_times turns node other = elim (cases_eq other node) [

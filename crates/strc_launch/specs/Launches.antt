@@ -2,13 +2,13 @@
 use Rattle.std.specs.Prelude.{◌≡◌, ℕ, suc, false, ℤ, List, map}
 use Rattle.strc_admissible.specs.Machine.{CircuitView, MachineView}
 use Rattle.strc_core.specs.States.{Start}
-use Rattle.strc_cut.specs.Bounds.{stage_bounds, stage_count}
+use Rattle.strc_stage.specs.Bounds.{stage_bounds, stage_count}
 use Rattle.strc_fuse.specs.Units.{round_units}
-use Rattle.strc_parcel.specs.declared.stop as parcels
-use Rattle.strc_parcel.specs.Parcels.{Load}
+use Rattle.strc_core.specs.declared.stop as parcels
+use Rattle.strc_core.specs.Parcels.{Load}
 use Rattle.strc_stage.specs.Plans.{PlanParts, transformed_of}
 use Rattle.strc_staged.specs.Beginnings.{IsBeginning}
-use Rattle.strc_split_rings.specs.Plans.{IsCut, running_of}
+use Rattle.strc_staged.specs.Plans.{IsCut, running_of}
 use Rattle.strc_staged.specs.Steps.{StageState, Gathered}
 use Rattle.strc_stages.specs.Collectors.{sees}
 use Rattle.strc_stages.specs.Stages.{see}

@@ -3,9 +3,9 @@ use Rattle.std.specs.Prelude.{ℕ, suc, Bool, ◌&&◌, not, eqb, nat_lt, nat_le
 use Rattle.std.specs.Prelude.{if◌then◌else◌}
 use Rattle.strc_graph.specs.Graphs.{Channel}
 use Rattle.strc_stage.specs.Plans.{PlanParts, transformed_of}
-use Rattle.strc_staging.specs.Ranges.{stage_within}
+use Rattle.strc_dataflow.specs.Ranges.{stage_within}
 use Rattle.strc_staged.specs.Runnings.{round_pushes}
-use Rattle.strc_split_rings.specs.Plans.{running_of}
+use Rattle.strc_staged.specs.Plans.{running_of}
 use Rattle.strc_staged.specs.Blocks.{raised}
 use Rattle.strc_staged.specs.declared.crossing.Crossing.{Crossing}
 use Rattle.strc_stages.specs.declared.stage.Block.{Block}

@@ -1,6 +1,6 @@
 -- The tapes of a stage's nodes.
 use Rattle.std.specs.Prelude.{ℕ, suc, List, [], ◌∷◌, if◌then◌else◌}
-use Rattle.strc_circuit.specs.Parts.{is_within}
+use Rattle.strc_rings.specs.Parts.{is_within}
 use Rattle.strc_staged.specs.declared.crossing.TapeOf.{TapeOf}
 
 -- Of these nodes, which have a tape each, those from the first up to the next one; the first of

@@ -2,14 +2,14 @@
 
 ghost use Rattle.std.specs.Prelude.{◌≡◌, ◌+◌, ◌*◌, ◌<◌, ℕ, All, IfOk, OnOk, length};
 ghost use Rattle.strc_balance.specs.Balance.{count_at};
-ghost use Rattle.strc_order.specs.Firings.{turns_of};
-ghost use Rattle.strc_order.specs.Greedy.{firings_of};
-ghost use Rattle.strc_order.specs.Order.{firing_count};
-ghost use Rattle.strc_order.specs.Peaks.{HasNodes};
+ghost use Rattle.strc_schedule.specs.Firings.{turns_of};
+ghost use Rattle.strc_schedule.specs.Greedy.{firings_of};
+ghost use Rattle.strc_schedule.specs.Order.{firing_count};
+ghost use Rattle.strc_schedule.specs.Peaks.{HasNodes};
 
 use std::alloc::Global;
 use strc_base::memory::NoMemory;
-use strc_order::unit::Unit;
+use strc_schedule::unit::Unit;
 
 /// How often each of so many nodes fires in a round's units; more firings than 32 bits count are
 /// too many for memory.

@@ -3,12 +3,12 @@
 ghost use Rattle.std.specs.Prelude.{◌≡◌, ◌<◌, ◌≤◌, ◌-◌, IfOk, length, map};
 ghost use Rattle.strc_balance.specs.Balance.{count_at};
 ghost use Rattle.strc_graph.specs.NodeView.{channel_view};
-ghost use Rattle.strc_staging.specs.Ranges.{stage_within};
+ghost use Rattle.strc_dataflow.specs.Ranges.{stage_within};
 ghost use Rattle.strc_launch.specs.Bounds.{bound_in, last_of};
 ghost use Rattle.strc_launch.specs.Cuts.{IsCutting};
 ghost use Rattle.strc_launch.specs.Launches.{bounds_of};
 ghost use Rattle.strc_launch.specs.Links as spec;
-ghost use Rattle.strc_split_rings.specs.Plans.{running_of};
+ghost use Rattle.strc_staged.specs.Plans.{running_of};
 
 use crate::counting::firing_counts;
 use crate::links::{Link, rooms};
@@ -16,8 +16,8 @@ use crate::pushes::round_pushes;
 use crate::tapes::tape_list;
 use std::alloc::Global;
 use strc_base::memory::NoMemory;
-use strc_cut::bounds::stage_bounds;
 use strc_graph::graph::Channel;
+use strc_stage::bounds::stage_bounds;
 use strc_stage::plan::Plan;
 
 /// A plan, cut into stages.

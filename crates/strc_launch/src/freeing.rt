@@ -5,7 +5,7 @@ ghost use Rattle.strc_stages.specs.Blocks.{IsFreeFor};
 ghost use Rattle.strc_stages.specs.declared.stage.StageParts.{StageParts};
 
 use std::alloc::{AllocError, Global};
-use strc_parcel::Parcel;
+use strc_core::Parcel;
 use strc_stages::Stage;
 
 /// Two parcels for each stage, as the first one can take them.

@@ -2,23 +2,23 @@
 
 ghost use Rattle.std.specs.Prelude.{◌≡◌, IfOk};
 ghost use Rattle.strc_graph.specs.NodeView.{graph_view};
-ghost use Rattle.strc_order.specs.Greedy.{firings_of};
+ghost use Rattle.strc_schedule.specs.Greedy.{firings_of};
 ghost use Rattle.strc_admissible.specs.Circuits.{IsCircuit};
-ghost use Rattle.strc_circuit.specs.Circuits.{circuit_view, IsReady};
+ghost use Rattle.strc_rings.specs.Circuits.{circuit_view, IsReady};
 ghost use Rattle.strc_runner.specs.Batches.{IsOrderOf, units_of};
 ghost use Rattle.strc_runner.specs.Running.{IsMachine, machine_view};
 ghost use Rattle.strc_launch.specs.Startups.{IsFaultOf, IsStartup, IsDealtOf};
 
 use std::alloc::{AllocError, Global};
 use strc_base::memory::NoMemory;
-use strc_circuit::circuit::Circuit;
-use strc_circuit::units::copy_units;
-use strc_dealt::dealing::deal_out;
-use strc_order::unit::Unit;
+use strc_rings::circuit::Circuit;
+use strc_rings::units::copy_units;
 use strc_runner::batches::Order;
 use strc_runner::machine::{Machine, Stop};
+use strc_schedule::unit::Unit;
 use strc_semantics::fault::Cause;
 use strc_stage::plan::Plan;
+use strc_staged::dealing::deal_out;
 
 /// What start-up of a plan comes to: the machine of the graph after fission, ready for the first
 /// round, with its circuit; or a fault, which names a node of the graph before fission.

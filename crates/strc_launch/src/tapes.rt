@@ -10,9 +10,9 @@ ghost use Rattle.strc_launch.specs.Tapes.{tapes_in};
 
 use std::alloc::{AllocError, Global};
 use std::mem;
-use strc_circuit::range::is_within;
 use strc_graph::graph::Node;
 use strc_graph::tapes::gives_words;
+use strc_rings::range::is_within;
 use strc_semantics::word::Word;
 use strc_staged::TapeOf;
 

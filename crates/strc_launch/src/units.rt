@@ -1,12 +1,12 @@
 // The units of a stage.
 
 ghost use Rattle.std.specs.Prelude.{◌≡◌, IfOk, slice_index};
-ghost use Rattle.strc_circuit.specs.Units.{unit_view, unit_views};
-ghost use Rattle.strc_cut.specs.Cuts as spec;
+ghost use Rattle.strc_rings.specs.Units.{unit_view, unit_views};
+ghost use Rattle.strc_stage.specs.Cuts as spec;
 
 use std::alloc::{AllocError, Global};
-use strc_circuit::range::is_within;
-use strc_order::unit::Unit;
+use strc_rings::range::is_within;
+use strc_schedule::unit::Unit;
 
 /// Copies of the units whose node is one of those from `first` up to `next`.
 pub(crate) fn units_within(

@@ -60,7 +60,7 @@ fn first_token(
         ((kind : TokenKind) (len : ℕ) → IsToken (drop at text.now) kind len → ⊥)) }
 {
     let rest = &text[at..];
-    let found = token_at(alloc, rest)?;
+    let found = token_at(alloc, rest, at)?;
     Ok(found)
 }
 

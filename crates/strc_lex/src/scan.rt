@@ -13,15 +13,20 @@ use std::alloc::{AllocError, Global};
 // The greatest number that a text can write.
 const GREATEST: u64 = 2_147_483_648;
 
-/// The token at the front of a text and its length, or None where none begins there.
-pub(crate) fn token_at(alloc: Global, text: &[u8]) -> Result<Option<(TokenKind, usize)>, AllocError>
+/// The token at the front of a text and its length, or None where none begins there; where the
+/// front is at this byte of the whole text.
+pub(crate) fn token_at(
+    alloc: Global,
+    text: &[u8],
+    at: usize,
+) -> Result<Option<(TokenKind, usize)>, AllocError>
     ensures { IfOk result (λ found. found ≡ spec.token_at text.now) }
 {
     let Some(&first) = text.first() else {
         return Ok(None);
     };
     if is_letter(first) {
-        Ok(Some(name_at(alloc, text)?))
+        Ok(Some(name_at(alloc, text, at)?))
     } else if is_digit(first) {
         Ok(number_at(text))
     } else if is_quote(first) {
@@ -32,14 +37,14 @@ pub(crate) fn token_at(alloc: Global, text: &[u8]) -> Result<Option<(TokenKind, 
 }
 
 // A name or a keyword.
-fn name_at(alloc: Global, text: &[u8]) -> Result<(TokenKind, usize), AllocError>
+fn name_at(alloc: Global, text: &[u8], at: usize) -> Result<(TokenKind, usize), AllocError>
     ensures { IfOk result (λ found. found ≡ spec.name_at text.now) }
 {
     let bytes = name_bytes(text);
     match keyword_of(bytes) {
         Some(keyword) => Ok((TokenKind::Keyword(keyword), bytes.len())),
         None => Ok((
-            TokenKind::Name(Name::new(bytes.to_vec(alloc)?)),
+            TokenKind::Name(Name::written_at(bytes.to_vec(alloc)?, at)),
             bytes.len(),
         )),
     }

@@ -2,6 +2,7 @@
 // the text.
 
 pub use strc_base::name::{Name, StringLiteral};
+pub use strc_base::place::Span;
 
 /// A token and where it is in the text.
 pub struct Token {
@@ -15,13 +16,6 @@ impl Drop for Token {
     fn drop(self) {
         let Token { kind: _, span: _ } = self;
     }
-}
-
-/// The bytes from `start` up to `end`, `end` not included.
-#[derive(Clone, Copy)]
-pub struct Span {
-    pub start: usize,
-    pub end: usize,
 }
 
 /// What kind of token it is, with the name, the number or the text that it carries.

@@ -8,7 +8,7 @@ use std::alloc::Global;
 use std::marker::Model;
 use strc_base::memory::NoMemory;
 use strc_base::name::Name;
-use strc_names::scope_map::ScopeMap;
+use strc_base::scope_map::ScopeMap;
 
 /// Where a variable's cells are: the first slot, and how many there are.
 #[derive(Clone, Copy)]

@@ -54,6 +54,7 @@ fn emit_stmt(code: &mut Builder, names: &mut Layout, statement: &Stmt) -> Result
     match statement {
         Stmt::Empty | Stmt::Compose(_) => Ok(()),
         Stmt::Block(body) => emit_block(code, names, body),
+        Stmt::Placed(_, inner) => emit_stmt(code, names, inner),
         Stmt::Declare(declared) => {
             emit_variables(code, names, cells_of(&declared.kind), &declared.variables)
         }

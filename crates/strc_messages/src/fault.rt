@@ -3,20 +3,24 @@
 ghost use Rattle.std.specs.Prelude.{[], codes, IfOk};
 ghost use Rattle.strc_source.specs.Messages.{IsMessage};
 
-use crate::places::place_of_node;
-use crate::program::graph_of;
+use crate::refusal::tokens_of;
 use std::alloc::Global;
 use strc_base::memory::NoMemory;
-use strc_graph::graph::Graph;
-use strc_lex::lexer::lex;
-use strc_nodes::nodes::push_node;
-use strc_outcome::outcome::Round;
-use strc_outcome::refusal::RunRefusal;
+use strc_base::place::Span;
+use strc_graph::graph::{Graph, Node};
+use strc_graph::instance::Instance;
+use strc_lex::token::Keyword;
+use strc_places::bodies::faulting_statement;
+use strc_places::operators::faulting_part;
+use strc_refusal::outcome::Round;
+use strc_refusal::run_refusal::RunRefusal;
+use strc_semantics::body::Body;
 use strc_semantics::fault::Cause;
 use strc_source::message::Message;
+use strc_source::nodes::push_node;
 use strc_source::source::Source;
-use strc_trial::elaborates::Elaborates;
-use strc_trial::trial::Trial;
+use strc_source::tokens::keyword_before;
+use strc_syntax::tree::{FilterTree, Member, Stmt};
 
 /// A firing that faulted.
 #[derive(Clone, Copy)]
@@ -29,55 +33,115 @@ pub struct FaultSite {
     pub cause: Cause,
 }
 
-/// What a person reads of a fault: the place of the filter in the file, and one sentence with the
-/// node's name, its firing and the round.
-pub fn fault_message<'a, E: Elaborates>(
+/// What a person reads of a fault in the run of a flat graph: the place in the file of the
+/// statement or the filter, and one sentence with the node's name, its firing and the round.
+///
+/// `main` is the main stream that was asked for.
+pub fn fault_message<'a>(
     alloc: Global,
-    elaborates: &'a E,
     file: &'a str,
     text: &'a [u8],
     main: Option<&'a str>,
-    site: FaultSite,
+    graph: &Graph,
+    fault: FaultSite,
 ) -> Result<Vec<u8>, NoMemory>
     ensures { IfOk result (λ message. IsMessage file.now text.now message.items) }
 {
-    let tokens = match lex(alloc, text) {
-        Ok(tokens) => tokens,
-        Err(_) => Vec::new(alloc),
-    };
+    let tokens = tokens_of(alloc, text);
     let source = Source {
         file,
         text,
         tokens: &tokens,
         main,
     };
-    let trial = Trial {
-        alloc,
-        source,
-        elaborates,
-    };
-    let graph = graph_of(trial);
-    write_fault(trial, graph.as_ref(), site)
+    write_fault(alloc, source, graph, fault)
 }
 
-fn write_fault<E: Elaborates>(
-    trial: Trial<'_, E>,
-    graph: Option<&Graph>,
-    site: FaultSite,
+fn write_fault(
+    alloc: Global,
+    source: Source<'_>,
+    graph: &Graph,
+    fault: FaultSite,
 ) -> Result<Vec<u8>, NoMemory>
     ensures { IfOk result (λ message.
-        IsMessage trial.entry.source.file.now trial.entry.source.text.now message.items) }
+        IsMessage source.entry.file.now source.entry.text.now message.items) }
 {
-    let (alloc, source) = (trial.alloc, trial.source);
-    let place = place_of_node(trial, graph, site.node as usize)?;
+    let place = place_of_fault(alloc, source, graph, fault)?;
     let mut message = Message::new(alloc);
-    push_node(&mut message, graph, site.node as usize)?;
-    message.add(cause_words(site.cause))?;
+    push_node(&mut message, Some(graph), fault.node as usize)?;
+    message.add(cause_words(fault.cause))?;
     message.add(b" in its firing ")?;
-    message.number(site.firing)?;
-    push_round(&mut message, site.round)?;
+    message.number(fault.firing)?;
+    push_round(&mut message, fault.round)?;
     source.excerpt(&mut message, place)?;
     source.message(alloc, place, message)
+}
+
+/// The statement that faults, where it is known; else the filter.
+fn place_of_fault(
+    alloc: Global,
+    source: Source<'_>,
+    graph: &Graph,
+    fault: FaultSite,
+) -> Result<Option<Span>, NoMemory> {
+    let Some(Node::Filter(instance)) = graph.nodes().get(fault.node as usize) else {
+        return Ok(None);
+    };
+    let body = if fault.firing == 0 && instance.code.has_prework() {
+        Body::Prework
+    } else {
+        Body::Work
+    };
+    match faulting_statement(alloc, &instance.code, body, fault.cause)? {
+        Some(statement) => Ok(Some(faulting_part(source, statement, fault.cause))),
+        None => Ok(place_of_filter(source, instance)),
+    }
+}
+
+/// The name by which a filter is declared, or else the statement that adds it.
+fn place_of_filter(source: Source<'_>, instance: &Instance) -> Option<Span> {
+    match &instance.name {
+        Some(name) => name.place(),
+        None => heading_before(source, first_place(instance.code.tree())?.start),
+    }
+}
+
+/// The statement that adds the filter without a name that has this byte of the text.
+fn heading_before(source: Source<'_>, inside: usize) -> Option<Span> {
+    let filter = keyword_before(source.tokens, inside, Keyword::Filter)?;
+    let mut start = filter.start;
+    for keyword in [Keyword::Add, Keyword::Body, Keyword::Loop] {
+        if let Some(found) = keyword_before(source.tokens, filter.start, keyword) {
+            start = if start == filter.start {
+                found.start
+            } else {
+                start.max(found.start)
+            };
+        }
+    }
+    Some(Span {
+        start,
+        end: filter.end,
+    })
+}
+
+/// The first place in a filter's text that is known.
+fn first_place(tree: &FilterTree) -> Option<Span> {
+    tree.members.iter().find_map(|member| match member {
+        Member::Fields(variables) => Some(variables.place),
+        Member::Prework(rates, block) | Member::Work(rates, block) => match rates.first() {
+            Some(rate) => Some(rate.place),
+            None => block_place(block),
+        },
+        Member::Init(block) => block_place(block),
+    })
+}
+
+fn block_place(block: &[Stmt]) -> Option<Span> {
+    match block.first() {
+        Some(Stmt::Placed(place, _)) => Some(*place),
+        _ => None,
+    }
 }
 
 /// What a firing did.

@@ -4,105 +4,91 @@
 ghost use Rattle.std.specs.Prelude.{IfOk, IfSome};
 ghost use Rattle.strc_source.specs.Messages.{IsMessage};
 
-use crate::origin::origin_of;
-use crate::program::stream_of;
 use std::alloc::Global;
 use strc_base::memory::NoMemory;
-use strc_nodes::preorder::{Preorder, preorder_of};
+use strc_base::place::Span;
+use strc_check::site::{Mismatch, Site};
+use strc_places::known::{Known, can_be_main};
+use strc_places::origins::statement_of;
 use strc_refusal::refusal::Refusal;
-use strc_source::declarations::{declaration_named, declaration_numbered};
-use strc_source::message::{Extent, Message};
+use strc_refusal::refused::Refused;
+use strc_source::message::Message;
 use strc_source::place::place_of;
+use strc_source::preorder::Preorder;
 use strc_source::source::Source;
-use strc_trial::elaborates::Elaborates;
-use strc_trial::faulting::main_candidate;
-use strc_trial::trial::Trial;
 
 /// The message, where the two parts are known.
-pub(crate) fn pair_message<E: Elaborates>(
-    trial: Trial<'_, E>,
-    refusal: &Refusal,
-) -> Result<Option<Vec<u8>>, NoMemory>
+pub(crate) fn pair_message(known: Known<'_>, refused: &Refused) -> Result<Option<Vec<u8>>, NoMemory>
     ensures { IfOk result (λ found. IfSome found (λ message.
-        IsMessage trial.entry.source.file.now trial.entry.source.text.now message.items)) }
+        IsMessage known.entry.source.file.now known.entry.source.text.now message.items)) }
 {
-    match refusal {
-        Refusal::ManyMains => two_mains(trial.alloc, trial.source),
-        Refusal::TypeMismatch { stream } => two_of_a_name(trial.alloc, trial.source, *stream),
+    match refused.refusal() {
+        Refusal::ManyMains => two_mains(known),
+        Refusal::TypeMismatch { .. } => two_of_a_name(known, refused.site()),
         Refusal::TwoInputs | Refusal::TapeTwice { .. } | Refusal::Disconnected => {
-            two_nodes(trial, refusal)
+            two_nodes(known, refused.refusal())
         }
         _ => Ok(None),
     }
 }
 
 /// Two declarations that could be the main stream.
-fn two_mains(alloc: Global, source: Source<'_>) -> Result<Option<Vec<u8>>, NoMemory>
+fn two_mains(known: Known<'_>) -> Result<Option<Vec<u8>>, NoMemory>
     ensures { IfOk result (λ found. IfSome found (λ message.
-        IsMessage source.entry.file.now source.entry.text.now message.items)) }
+        IsMessage known.entry.source.file.now known.entry.source.text.now message.items)) }
 {
-    let (Some(first), Some(second)) = (main_candidate(source, 0), main_candidate(source, 1)) else {
+    let source = known.source;
+    let mut mains = known.declarations().iter().filter(|it| can_be_main(it));
+    let (Some(first), Some(second)) = (mains.next(), mains.next()) else {
         return Ok(None);
     };
-    let mut message = Message::new(alloc);
-    message.quoted(source.bytes(second))?;
+    let place = second.name.place();
+    let mut message = Message::new(known.alloc);
+    message.quoted(second.name.as_bytes())?;
     message.add(b" could be the main stream, and so could ")?;
-    message.quoted(source.bytes(first))?;
-    push_place(&mut message, source, Some(first))?;
-    source.excerpt(&mut message, Some(second))?;
+    message.quoted(first.name.as_bytes())?;
+    push_place(&mut message, source, first.name.place())?;
+    source.excerpt(&mut message, place)?;
     message.hint()?;
     message.add(b"name the one that is to run with --main NAME")?;
-    Ok(Some(source.message(alloc, Some(second), message)?))
+    Ok(Some(source.message(known.alloc, place, message)?))
 }
 
 /// A declaration, and an earlier one of its name.
-fn two_of_a_name(
-    alloc: Global,
-    source: Source<'_>,
-    declaration: usize,
-) -> Result<Option<Vec<u8>>, NoMemory>
+fn two_of_a_name(known: Known<'_>, site: Site) -> Result<Option<Vec<u8>>, NoMemory>
     ensures { IfOk result (λ found. IfSome found (λ message.
-        IsMessage source.entry.file.now source.entry.text.now message.items)) }
+        IsMessage known.entry.source.file.now known.entry.source.text.now message.items)) }
 {
-    let Some(second) = declaration_numbered(source.tokens, declaration) else {
+    let (Some(Mismatch::StreamTwice(first)), Some(second)) = (site.mismatch, site.place) else {
         return Ok(None);
     };
-    match declaration_named(source.tokens, source.bytes(second)) {
-        Some(first) if first.at < second.at => {
-            let mut message = Message::new(alloc);
-            message.quoted(source.bytes(second))?;
-            message.add(b" is declared twice: here, and before it")?;
-            push_place(&mut message, source, Some(first))?;
-            source.excerpt(&mut message, Some(second))?;
-            Ok(Some(source.message(alloc, Some(second), message)?))
-        }
-        _ => Ok(None),
-    }
+    let source = known.source;
+    let mut message = Message::new(known.alloc);
+    message.quoted(source.bytes(second))?;
+    message.add(b" is declared twice: here, and before it")?;
+    push_place(&mut message, source, first)?;
+    source.excerpt(&mut message, Some(second))?;
+    Ok(Some(source.message(known.alloc, Some(second), message)?))
 }
 
 /// Two nodes.
-fn two_nodes<E: Elaborates>(
-    trial: Trial<'_, E>,
-    refusal: &Refusal,
-) -> Result<Option<Vec<u8>>, NoMemory>
+fn two_nodes(known: Known<'_>, refusal: &Refusal) -> Result<Option<Vec<u8>>, NoMemory>
     ensures { IfOk result (λ found. IfSome found (λ message.
-        IsMessage trial.entry.source.file.now trial.entry.source.text.now message.items)) }
+        IsMessage known.entry.source.file.now known.entry.source.text.now message.items)) }
 {
-    let (alloc, source) = (trial.alloc, trial.source);
-    let Some(stream) = stream_of(trial) else {
+    let (alloc, source) = (known.alloc, known.source);
+    let Some(order) = known.nodes else {
         return Ok(None);
     };
-    let order = preorder_of(alloc, &stream)?;
-    let Some((first, second)) = pair_of(alloc, &order, refusal)? else {
+    let Some((first, second)) = pair_of(alloc, order, refusal)? else {
         return Ok(None);
     };
-    let other = site(trial, &order, first)?;
-    let place = site(trial, &order, second)?;
+    let place = statement_of(known, second);
     let mut message = Message::new(alloc);
     order.push_name(&mut message, second)?;
     message.add(joining_words(refusal))?;
     order.push_name(&mut message, first)?;
-    push_place(&mut message, source, other)?;
+    push_place(&mut message, source, statement_of(known, first))?;
     source.excerpt(&mut message, place)?;
     message.hint()?;
     message.add(pair_hint(refusal))?;
@@ -152,18 +138,6 @@ fn two_readers(order: &Preorder) -> Option<(usize, usize)> {
     None
 }
 
-/// The statement that a node comes from.
-fn site<E: Elaborates>(
-    trial: Trial<'_, E>,
-    order: &Preorder,
-    node: usize,
-) -> Result<Option<Extent>, NoMemory> {
-    match order.nodes.get(node) {
-        Some(seen) => origin_of(trial, node, &seen.name),
-        None => Ok(None),
-    }
-}
-
 fn joining_words(refusal: &Refusal) -> &'static [u8] {
     match refusal {
         Refusal::TwoInputs => b" takes the input, and so does ",
@@ -186,10 +160,10 @@ fn pair_hint(refusal: &Refusal) -> &'static [u8] {
 fn push_place(
     message: &mut Message,
     source: Source<'_>,
-    place: Option<Extent>,
+    place: Option<Span>,
 ) -> Result<(), NoMemory> {
-    if let Some(extent) = place {
-        let place = place_of(source.text, extent.at);
+    if let Some(part) = place {
+        let place = place_of(source.text, part.start);
         message.add(b", in line ")?;
         message.number(place.line as u64)?;
         message.add(b", column ")?;

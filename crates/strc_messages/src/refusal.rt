@@ -4,230 +4,158 @@ ghost use Rattle.std.specs.Prelude.{IfOk};
 ghost use Rattle.strc_source.specs.Messages.{IsMessage};
 
 use crate::hints::push_hint;
-use crate::moved::{Moved, moved_of};
+use crate::mismatches::push_mismatch;
 use crate::pairs::pair_message;
-use crate::parts::{is_statement, push_part, refused_part};
-use crate::places::place_of_refusal;
-use crate::program::graph_of;
 use crate::sentences::plain_sentence;
+use crate::syntax::push_syntax;
 use std::alloc::Global;
 use strc_base::memory::NoMemory;
-use strc_graph::graph::Graph;
+use strc_base::place::Span;
 use strc_lex::lexer::lex;
 use strc_lex::token::Token;
-use strc_nodes::counts::large_channel;
-use strc_nodes::nodes::{push_channel, push_node};
-use strc_nodes::stuck::push_stuck_loop;
+use strc_parse::parse;
+use strc_places::known::Known;
+use strc_places::moved::{Moved, moved_of, rate_keyword};
+use strc_places::places::{code_of, place_of_refusal};
 use strc_refusal::refusal::Refusal;
-use strc_source::message::{Extent, Message};
+use strc_refusal::refused::Refused;
+use strc_source::counts::large_channel;
+use strc_source::message::Message;
+use strc_source::nodes::{push_channel, push_node};
+use strc_source::preorder::{Preorder, preorder_of};
 use strc_source::source::Source;
-use strc_trial::elaborates::Elaborates;
-use strc_trial::expected::{Expected, expected_after};
-use strc_trial::trial::Trial;
+use strc_source::stuck::push_stuck_loop;
 
 /// What a person reads of a text's refusal: the place in the file, one sentence, the source line
 /// with a mark under the place, and where it helps a hint; a line feed ends the message.
 ///
 /// `main` is the main stream that was asked for.
-pub fn refusal_message<'a, E: Elaborates>(
+pub fn refusal_message<'a>(
     alloc: Global,
-    elaborates: &'a E,
     file: &'a str,
     text: &'a [u8],
     main: Option<&'a str>,
-    refusal: &Refusal,
+    refused: &'a Refused,
 ) -> Result<Vec<u8>, NoMemory>
     ensures { IfOk result (λ message. IsMessage file.now text.now message.items) }
 {
     let tokens = tokens_of(alloc, text);
+    let program = parse(alloc, &tokens).ok();
+    let nodes = nodes_of(alloc, refused)?;
     let source = Source {
         file,
         text,
         tokens: &tokens,
         main,
     };
-    let trial = Trial {
+    let known = Known {
         alloc,
         source,
-        elaborates,
+        program: program.as_ref(),
+        nodes: nodes.as_ref(),
+        graph: refused.graph(),
     };
-    let graph = if names_nodes(refusal) {
-        graph_of(trial)
-    } else {
-        None
-    };
-    write_message(trial, graph.as_ref(), refusal)
+    write_message(known, refused)
 }
 
 /// The text's tokens; none where it has none.
-fn tokens_of(alloc: Global, text: &[u8]) -> Vec<Token> {
+pub(crate) fn tokens_of(alloc: Global, text: &[u8]) -> Vec<Token> {
     match lex(alloc, text) {
         Ok(tokens) => tokens,
         Err(_) => Vec::new(alloc),
     }
 }
 
-/// Whether a refusal names a node or a channel.
-fn names_nodes(refusal: &Refusal) -> bool {
-    match refusal {
-        Refusal::RateUnknown { .. }
-        | Refusal::RateMismatch { .. }
-        | Refusal::PeekOutside { .. }
-        | Refusal::RateLimit { .. }
-        | Refusal::Inconsistent { .. }
-        | Refusal::BufferLimit { .. }
-        | Refusal::CountsTooLarge
-        | Refusal::Deadlock { .. } => true,
-        _ => false,
+/// The nodes of the program's main stream, where it is known.
+fn nodes_of(alloc: Global, refused: &Refused) -> Result<Option<Preorder>, NoMemory> {
+    match refused.stream() {
+        Some(stream) => Ok(Some(preorder_of(alloc, stream)?)),
+        None => Ok(None),
     }
 }
 
-fn write_message<E: Elaborates>(
-    trial: Trial<'_, E>,
-    graph: Option<&Graph>,
-    refusal: &Refusal,
-) -> Result<Vec<u8>, NoMemory>
+fn write_message(known: Known<'_>, refused: &Refused) -> Result<Vec<u8>, NoMemory>
     ensures { IfOk result (λ message.
-        IsMessage trial.entry.source.file.now trial.entry.source.text.now message.items) }
+        IsMessage known.entry.source.file.now known.entry.source.text.now message.items) }
 {
-    if let Some(message) = pair_message(trial, refusal)? {
+    if let Some(message) = pair_message(known, refused)? {
         return Ok(message);
     }
-    let (alloc, source) = (trial.alloc, trial.source);
-    let part = refused_part(trial, refusal)?;
-    let place = match part {
-        Some(part) => Some(part.place),
-        None => place_of_refusal(trial, graph, refusal)?,
-    };
-    let mut message = Message::new(alloc);
-    if !push_part(&mut message, part)? {
-        push_sentence(
-            alloc,
-            &mut message,
-            source,
-            graph,
-            refusal,
-            is_statement(part),
-        )?;
-    }
-    source.excerpt(&mut message, place)?;
-    push_hint(alloc, &mut message, source, refusal, part)?;
-    source.message(alloc, place, message)
+    let place = place_of_refusal(known, refused)?;
+    let mut message = Message::new(known.alloc);
+    push_sentence(&mut message, known, refused, place)?;
+    known.source.excerpt(&mut message, place)?;
+    push_hint(&mut message, known, refused)?;
+    known.source.message(known.alloc, place, message)
 }
 
-/// The sentence; whether it is about a statement.
+/// The sentence, about this place.
 fn push_sentence(
-    alloc: Global,
     message: &mut Message,
-    source: Source<'_>,
-    graph: Option<&Graph>,
-    refusal: &Refusal,
-    in_statement: bool,
+    known: Known<'_>,
+    refused: &Refused,
+    place: Option<Span>,
 ) -> Result<(), NoMemory> {
+    let (source, refusal) = (known.source, refused.refusal());
     match refusal {
-        Refusal::Parse { token } => push_syntax(alloc, message, source, *token),
+        Refusal::Parse { token } => push_syntax(known.alloc, message, source, *token),
         Refusal::UnknownName { name } => {
             message.quoted(name.as_bytes())?;
             Ok(message.add(b" isn't declared here")?)
         }
+        Refusal::TypeMismatch { .. } => match refused.site().mismatch {
+            Some(mismatch) => Ok(push_mismatch(message, known, mismatch, place)?),
+            None => Ok(message.add(plain_sentence(source, refusal))?),
+        },
         Refusal::RateMismatch { node, .. } => {
-            push_node(message, graph, *node)?;
-            push_mismatch(alloc, message, graph, refusal)
+            push_node(message, known.graph, *node)?;
+            push_rates(message, known, *node, refusal)
         }
         Refusal::RateLimit { node } => {
-            push_node(message, graph, *node)?;
-            push_limit(alloc, message, graph, refusal)
+            push_node(message, known.graph, *node)?;
+            push_limit(message, known, *node, refusal)
         }
         Refusal::RateUnknown { node } | Refusal::PeekOutside { node } => {
-            push_node(message, graph, *node)?;
-            Ok(message.add(plain_sentence(source, refusal, in_statement))?)
+            push_node(message, known.graph, *node)?;
+            Ok(message.add(plain_sentence(source, refusal))?)
         }
         Refusal::Inconsistent { channel } | Refusal::BufferLimit { channel } => {
-            push_channel(message, graph, *channel)?;
-            Ok(message.add(plain_sentence(source, refusal, in_statement))?)
+            push_channel(message, known.graph, *channel)?;
+            Ok(message.add(plain_sentence(source, refusal))?)
         }
-        Refusal::CountsTooLarge => push_large(alloc, message, source, graph),
+        Refusal::CountsTooLarge => push_large(message, known),
         Refusal::Deadlock { .. } => {
-            message.add(plain_sentence(source, refusal, in_statement))?;
-            Ok(push_stuck_loop(alloc, message, graph)?)
+            message.add(plain_sentence(source, refusal))?;
+            Ok(push_stuck_loop(known.alloc, message, known.graph)?)
         }
-        _ => Ok(message.add(plain_sentence(source, refusal, in_statement))?),
+        _ => Ok(message.add(plain_sentence(source, refusal))?),
     }
 }
 
 /// The channel whose rates make the counts of a round too large, where it is known.
-fn push_large(
-    alloc: Global,
-    message: &mut Message,
-    source: Source<'_>,
-    graph: Option<&Graph>,
-) -> Result<(), NoMemory> {
-    if let Some(graph) = graph {
-        if let Some(channel) = large_channel(alloc, graph)? {
+fn push_large(message: &mut Message, known: Known<'_>) -> Result<(), NoMemory> {
+    if let Some(graph) = known.graph {
+        if let Some(channel) = large_channel(known.alloc, graph)? {
             push_channel(message, Some(graph), channel)?;
             return Ok(message.add(b" makes a node fire more than 1,000,000 times in a round")?);
         }
     }
-    Ok(message.add(plain_sentence(source, &Refusal::CountsTooLarge, false))?)
+    Ok(message.add(plain_sentence(known.source, &Refusal::CountsTooLarge))?)
 }
 
-/// What is where it can't be, and what could be there.
-fn push_syntax(
-    alloc: Global,
-    message: &mut Message,
-    source: Source<'_>,
-    token: usize,
-) -> Result<(), NoMemory> {
-    let place = source.token_place(token);
-    if token < source.tokens.len() {
-        message.quoted(source.bytes(place))?;
-        message.add(b" can't stand here")?;
-    } else {
-        message.add(b"the text ends too soon")?;
+/// The rate of a node that a refusal is about, where it is known.
+fn moved_at(known: Known<'_>, node: usize, refusal: &Refusal) -> Result<Option<Moved>, NoMemory> {
+    match code_of(known, node) {
+        Some(code) => moved_of(known.alloc, code, refusal),
+        None => Ok(None),
     }
-    let beginning = source.bytes(Extent {
-        at: 0,
-        length: place.at,
-    });
-    match expected_after(alloc, beginning, token)? {
-        Some(expected) => push_expected(message, &expected),
-        None => Ok(()),
-    }
-}
-
-/// What could be there: kinds of things first, then tokens.
-fn push_expected(message: &mut Message, expected: &Expected) -> Result<(), NoMemory> {
-    let mut said = false;
-    for (is, words) in [
-        (expected.statement, "a statement"),
-        (expected.expression && !expected.statement, "an expression"),
-        (expected.name && !expected.expression, "a name"),
-        (expected.operator, "an operator"),
-    ] {
-        if is {
-            message.add(separator(said))?;
-            message.add(words.as_bytes())?;
-            said = true;
-        }
-    }
-    for token in &expected.tokens {
-        message.add(separator(said))?;
-        message.quoted(token)?;
-        said = true;
-    }
-    Ok(())
-}
-
-/// What is written before one of several things.
-fn separator(said: bool) -> &'static [u8] {
-    if said { b", " } else { b"; expected " }
 }
 
 /// A filter whose text doesn't push or pop what it declares.
-fn push_mismatch(
-    alloc: Global,
+fn push_rates(
     message: &mut Message,
-    graph: Option<&Graph>,
+    known: Known<'_>,
+    node: usize,
     refusal: &Refusal,
 ) -> Result<(), NoMemory> {
     let Refusal::RateMismatch {
@@ -239,11 +167,9 @@ fn push_mismatch(
         return Ok(());
     };
     message.add(b" declares a ")?;
-    if let Some(graph) = graph {
-        if let Some(moved) = moved_of(alloc, graph, refusal)? {
-            message.quoted(moved.side.text())?;
-            message.add(b" ")?;
-        }
+    if let Some(moved) = moved_at(known, node, refusal)? {
+        message.quoted(rate_keyword(moved.side).text())?;
+        message.add(b" ")?;
     }
     message.add(b"rate of ")?;
     message.number(u64::from(*declared))?;
@@ -253,19 +179,19 @@ fn push_mismatch(
 
 /// A filter with a rate that isn't allowed.
 fn push_limit(
-    alloc: Global,
     message: &mut Message,
-    graph: Option<&Graph>,
+    known: Known<'_>,
+    node: usize,
     refusal: &Refusal,
 ) -> Result<(), NoMemory> {
-    if let Some(graph) = graph {
-        if let Some(moved) = moved_of(alloc, graph, refusal)? {
+    match moved_at(known, node, refusal)? {
+        Some(moved) => {
             message.add(b" has a ")?;
-            message.quoted(moved.side.text())?;
-            return Ok(message.add(limit_words(moved))?);
+            message.quoted(rate_keyword(moved.side).text())?;
+            Ok(message.add(limit_words(moved))?)
         }
+        None => Ok(message.add(b" has a rate that isn't allowed")?),
     }
-    Ok(message.add(b" has a rate that isn't allowed")?)
 }
 
 /// What is wrong with a rate.

@@ -5,27 +5,18 @@ use strc_semantics::fault::Cause;
 use strc_source::source::Source;
 
 /// What is said of a refusal; of one that names a node or a channel, what follows their names.
-/// `in_statement`: it is said of a statement, and else of a whole declaration.
-pub(crate) fn plain_sentence(
-    source: Source<'_>,
-    refusal: &Refusal,
-    in_statement: bool,
-) -> &'static [u8] {
+pub(crate) fn plain_sentence(source: Source<'_>, refusal: &Refusal) -> &'static [u8] {
     match refusal {
         Refusal::Lex { at } => lexical_sentence(source.text, *at),
         Refusal::ConstFault { cause } => fault_sentence(*cause),
         Refusal::NoMain => no_main(source.main),
-        Refusal::TypeMismatch { .. } if in_statement => {
-            b"a type, a kind or a part in this statement isn't the one that must be there"
+        Refusal::TypeMismatch { .. } => {
+            b"a type, a kind or a part isn't the one that must be there"
         }
-        Refusal::BadArguments { .. } if in_statement => {
+        Refusal::BadArguments { .. } => {
             b"the stream that is added here gets another number of arguments than it has parameters"
         }
-        Refusal::BadWeights { .. } if in_statement => {
-            b"the weights in this statement don't fit its children"
-        }
-        Refusal::TypeMismatch { .. } | Refusal::BadArguments { .. } | Refusal::BadWeights { .. } =>
-            { declaration_sentence(refusal) }
+        Refusal::BadWeights { .. } => b"the weights in this statement don't fit its children",
         Refusal::RateUnknown { .. } => b" pushes or pops a number of items that can't be counted",
         Refusal::PeekOutside { .. } => b" looks at an item that is never in its window",
         Refusal::Inconsistent { .. } => b" can't be balanced",
@@ -59,18 +50,6 @@ fn no_main(main: Option<&str>) -> &'static [u8] {
     match main {
         Some(_) => b"the stream that --main names isn't void->void without parameters",
         None => b"no stream is declared void->void without parameters",
-    }
-}
-
-/// What is wrong in a declaration.
-fn declaration_sentence(refusal: &Refusal) -> &'static [u8] {
-    match refusal {
-        Refusal::BadArguments { .. } => {
-            b"a stream that is added here gets another number of arguments than it has parameters"
-        }
-        Refusal::BadWeights { .. } =>
-            b"the weights of a split or a join here don't fit its children",
-        _ => b"a type, a kind or a part in this declaration isn't the one that must be there",
     }
 }
 

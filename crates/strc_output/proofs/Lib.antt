@@ -1,3 +1,6 @@
 pub mod PlanLines
 pub mod Pieces
 pub mod Pushing
+mod Boxes
+mod Shares
+mod Texts

@@ -10,13 +10,13 @@ use Rattle.strc_semantics.specs.declared.fault.Cause.TheVariants as cause
 use Rattle.strc_graph.specs.NodeView.{node_names}
 use Rattle.strc_graph.specs.declared.graph.Channel.{Channel}
 use Rattle.strc_stage.specs.Plans.{PlanParts}
-use Rattle.strc_outcome.specs.declared.outcome.Tape.{Tape}
-use Rattle.strc_outcome.specs.declared.outcome.Outcome.{Outcome}
-use Rattle.strc_outcome.specs.declared.outcome.Outcome.TheVariants as outcome
-use Rattle.strc_outcome.specs.declared.outcome.Round.{Round}
-use Rattle.strc_outcome.specs.declared.outcome.Round.TheVariants as round
-use Rattle.strc_outcome.specs.declared.refusal.RunRefusal.{RunRefusal}
-use Rattle.strc_outcome.specs.declared.refusal.RunRefusal.TheVariants as unrun
+use Rattle.strc_refusal.specs.declared.outcome.Tape.{Tape}
+use Rattle.strc_refusal.specs.declared.outcome.Outcome.{Outcome}
+use Rattle.strc_refusal.specs.declared.outcome.Outcome.TheVariants as outcome
+use Rattle.strc_refusal.specs.declared.outcome.Round.{Round}
+use Rattle.strc_refusal.specs.declared.outcome.Round.TheVariants as round
+use Rattle.strc_refusal.specs.declared.run_refusal.RunRefusal.{RunRefusal}
+use Rattle.strc_refusal.specs.declared.run_refusal.RunRefusal.TheVariants as unrun
 use Rattle.strc_refusal.specs.declared.refusal.Refusal.{Refusal}
 use Rattle.strc_refusal.specs.declared.refusal.Refusal.TheVariants as refusal
 use Rattle.strc_output.specs.declared.stop.Stop.{Stop}

@@ -8,7 +8,7 @@ use crate::text::Piece::{Bytes, Number};
 use crate::text::{push_bytes, push_integer, push_pieces};
 use std::alloc::{AllocError, Global};
 use strc_graph::graph::Graph;
-use strc_outcome::outcome::{Outcome, Round, Tape};
+use strc_refusal::outcome::{Outcome, Round, Tape};
 use strc_semantics::fault::Cause;
 use strc_semantics::word::Word;
 

@@ -10,8 +10,8 @@ use crate::text::Piece::{Bytes, Number};
 use crate::text::{push_bytes, push_number, push_pieces};
 use std::alloc::{AllocError, Global};
 use strc_graph::graph::Channel;
-use strc_outcome::refusal::RunRefusal;
 use strc_refusal::refusal::Refusal;
+use strc_refusal::run_refusal::RunRefusal;
 use strc_stage::plan::Plan;
 
 /// The line that tells how many nodes and channels there are.
@@ -155,7 +155,7 @@ fn push_stop(text: &mut Vec<u8>, stop: &Stop) -> Result<(), AllocError>
     ensures { OnOk result (text.new.items ≡ text.old.items ++ spec.stop_words stop.now) }
 {
     match stop {
-        Stop::Refused(refusal) => push_refusal(text, refusal),
+        Stop::Refused(refused) => push_refusal(text, refused.refusal()),
         Stop::BadInput { word } => push_field(text, b"S6 BadInput", b" word ", *word),
         Stop::NotRun(refusal) => push_run_refusal(text, *refusal),
     }

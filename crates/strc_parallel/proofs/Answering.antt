@@ -7,13 +7,13 @@ use Rattle.strc_semantics.specs.declared.fault.Cause.{Cause}
 use Rattle.strc_graph.specs.Graphs.{NodeCode}
 use Rattle.strc_admissible.specs.Laws.{round_order}
 use Rattle.strc_admissible.specs.Machine.{CircuitView, MachineView, rounds_run}
-use Rattle.strc_outcome.specs.declared.outcome.Outcome.{Outcome}
-use Rattle.strc_outcome.specs.declared.refusal.RunRefusal.{RunRefusal}
+use Rattle.strc_refusal.specs.declared.outcome.Outcome.{Outcome}
+use Rattle.strc_refusal.specs.declared.run_refusal.RunRefusal.{RunRefusal}
 use Rattle.strc_sched.specs.Plain.{IsEnding}
 use Rattle.strc_stage.specs.Plans.{PlanParts, IsPlan, graph_of, transformed_of}
-use Rattle.strc_split_rings.specs.Plans.{ComesToAnswer, Suffices, need_of}
-use Rattle.strc_split_rings.proofs.PlanRuns.{plan_faults_answer, plan_rings_answer}
-use Rattle.strc_split_rings.proofs.PlanRuns.{plan_rounds_answer}
+use Rattle.strc_staged.specs.Plans.{ComesToAnswer, Suffices, need_of}
+use Rattle.strc_staged.proofs.PlanRuns.{plan_faults_answer, plan_rings_answer}
+use Rattle.strc_staged.proofs.PlanRuns.{plan_rounds_answer}
 use Rattle.strc_launch.specs.declared.ringing.Ring.{Ring}
 use Rattle.strc_launch.specs.Launches.{HasBegun, IsLaunch, bounds_of, start_of}
 use Rattle.strc_launch.specs.Startups.{HasEnded as HasLeft, HasFaulted}

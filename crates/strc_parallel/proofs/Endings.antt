@@ -5,14 +5,14 @@ use Rattle.std.specs.declared.vec.Vec.{Vec}
 use Rattle.std.specs.declared.alloc.Global.{Global}
 use Rattle.strc_dataflow.specs.Answer.{Outcome.Done, Outcome.StartupFault, Outcome.RoundFault}
 use Rattle.strc_graph.specs.Graphs.{NodeCode}
-use Rattle.strc_outcome.specs.Tapes.{tape_view}
-use Rattle.strc_outcome.specs.declared.outcome.Tape.{Tape}
-use Rattle.strc_outcome.specs.declared.outcome.Outcome.{Outcome}
-use Rattle.strc_outcome.specs.declared.outcome.Outcome.TheVariants as outcome
-use Rattle.strc_outcome.specs.declared.outcome.Round.TheVariants as round
+use Rattle.strc_refusal.specs.Tapes.{tape_view}
+use Rattle.strc_refusal.specs.declared.outcome.Tape.{Tape}
+use Rattle.strc_refusal.specs.declared.outcome.Outcome.{Outcome}
+use Rattle.strc_refusal.specs.declared.outcome.Outcome.TheVariants as outcome
+use Rattle.strc_refusal.specs.declared.outcome.Round.TheVariants as round
 use Rattle.strc_semantics.specs.declared.fault.Cause.{Cause}
-use Rattle.strc_parcel.specs.declared.stop.Stop.{Stop}
-use Rattle.strc_parcel.specs.declared.stop.Stop.TheVariants as stops
+use Rattle.strc_core.specs.declared.stop.Stop.{Stop}
+use Rattle.strc_core.specs.declared.stop.Stop.TheVariants as stops
 use Rattle.strc_staged.specs.Laws.{TellsOutcome}
 use Rattle.strc_staged.specs.Steps.{Gathered}
 use Rattle.strc_parallel.specs.Answers.{Answer, IsTold}

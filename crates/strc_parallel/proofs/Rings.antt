@@ -1,15 +1,15 @@
 -- A ring that has begun is run to an end of its start.
 use Rattle.std.proofs.Common.{◌≡◌, sym, ap, subst, Bool, map, IfOk, IfErr, Ok, Err}
 use Rattle.std.proofs.Common.{Result}
-use Rattle.strc_outcome.specs.declared.outcome.Outcome.{Outcome}
-use Rattle.strc_outcome.specs.declared.refusal.RunRefusal.{RunRefusal}
-use Rattle.strc_outcome.specs.declared.refusal.RunRefusal.TheVariants as refused
+use Rattle.strc_refusal.specs.declared.outcome.Outcome.{Outcome}
+use Rattle.strc_refusal.specs.declared.run_refusal.RunRefusal.{RunRefusal}
+use Rattle.strc_refusal.specs.declared.run_refusal.RunRefusal.TheVariants as refused
 use Rattle.strc_core.specs.Actors.{Step, Collects, Collector}
 use Rattle.strc_core.specs.States.{IsStart}
-use Rattle.strc_parcel.specs.declared.stop.Stop.{Stop}
+use Rattle.strc_core.specs.declared.stop.Stop.{Stop}
 use Rattle.strc_stage.specs.Plans.{PlanParts}
 use Rattle.strc_staged.specs.Steps.{Gathered, stage_work}
-use Rattle.strc_pipe.specs.Pipes.{Beginning, IsStateOf}
+use Rattle.strc_stages.specs.Pipes.{Beginning, IsStateOf}
 use Rattle.strc_ring.specs.Cores as cores
 use Rattle.strc_ring.specs.States.{IsRing}
 use Rattle.strc_ring.specs.declared.shapes.Parts.{Parts}

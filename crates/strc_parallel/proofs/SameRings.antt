@@ -5,10 +5,10 @@ use Rattle.std.proofs.lemmas.List.{map-append}
 use Rattle.strc_core.specs.Actors.{Stage, Collector}
 use Rattle.strc_core.specs.Moves.{queues}
 use Rattle.strc_core.specs.States.{Core}
-use Rattle.strc_parcel.specs.declared.stop.Stop.{Stop}
-use Rattle.strc_parcel.specs.Parcels.{ParcelView, Load}
-use Rattle.strc_pipe.specs.Seeing as pipes
-use Rattle.strc_pipe.specs.declared.parts.Parts.{Parts}
+use Rattle.strc_core.specs.declared.stop.Stop.{Stop}
+use Rattle.strc_core.specs.Parcels.{ParcelView, Load}
+use Rattle.strc_stages.specs.Seeing as pipes
+use Rattle.strc_stages.specs.declared.parts.Parts.{Parts}
 use Rattle.strc_ring.specs.Cores.{turned, core_of_parts}
 use Rattle.strc_ring.specs.declared.shapes as shapes
 use Rattle.strc_parallel.specs.Parting.{AreParts, links_before}

@@ -11,7 +11,7 @@ use Rattle.circular_buffer.specs.contracts.cells.Deed as Deed
 use Rattle.strc_parallel.proofs.CodeCrosses.{code_send}
 use Rattle.strc_graph.specs.contracts.instance.Instance as Instance
 use Rattle.strc_graph.specs.contracts.graph.Node as Node
-use Rattle.strc_circuit.specs.contracts.circuit.Circuit as Circuit
+use Rattle.strc_rings.specs.contracts.circuit.Circuit as Circuit
 use Rattle.strc_runner.specs.contracts.batches.Order as Order
 use Rattle.strc_work.specs.contracts.state.State as State
 use Rattle.strc_work.specs.contracts.frame.Frame as Frame

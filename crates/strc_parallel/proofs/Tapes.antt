@@ -8,7 +8,7 @@ use Rattle.std.proofs.Math.Seq.{drop-nil, drop-cons}
 use Rattle.strc_semantics.specs.declared.word.Word.{Word}
 use Rattle.strc_graph.specs.Graphs.{NodeCode, gives_words}
 use Rattle.strc_graph.specs.Tapes.{tape_nodes, tape_nodes_from}
-use Rattle.strc_outcome.specs.Tapes.{TapeView, tape}
+use Rattle.strc_refusal.specs.Tapes.{TapeView, tape}
 use Rattle.strc_sched.specs.Tapes as nodes
 use Rattle.strc_sched.specs.Tapes.{tapes_of}
 use Rattle.strc_parallel.specs.Telling.{added, tapes_from, tapes_by}

@@ -2,7 +2,7 @@
 use Rattle.std.specs.Prelude.{ℕ}
 use Rattle.strc_admissible.specs.Laws.{round_order}
 use Rattle.strc_admissible.specs.Machine.{CircuitView, MachineView, rounds_run}
-use Rattle.strc_outcome.specs.declared.outcome.Outcome.{Outcome}
+use Rattle.strc_refusal.specs.declared.outcome.Outcome.{Outcome}
 use Rattle.strc_sched.specs.Plain.{IsEnding}
 use Rattle.strc_stage.specs.Plans.{PlanParts}
 use Rattle.strc_parallel.specs.Naming.{IsRenamed}

@@ -8,12 +8,12 @@ use Rattle.strc_semantics.specs.declared.fault.Cause.{Cause}
 use Rattle.strc_semantics.specs.declared.word.Word.{Word}
 use Rattle.strc_graph.specs.FlatGraphs.{IsProgram}
 use Rattle.strc_graph.specs.Graphs.{NodeCode}
-use Rattle.strc_outcome.specs.declared.outcome.Outcome.{Outcome}
-use Rattle.strc_outcome.specs.declared.outcome.Outcome.TheVariants as outcome
-use Rattle.strc_outcome.specs.declared.outcome.Round.TheVariants as round
+use Rattle.strc_refusal.specs.declared.outcome.Outcome.{Outcome}
+use Rattle.strc_refusal.specs.declared.outcome.Outcome.TheVariants as outcome
+use Rattle.strc_refusal.specs.declared.outcome.Round.TheVariants as round
 use Rattle.strc_sched.specs.Plain.{AreTapesOf}
 use Rattle.strc_stage.specs.Plans.{PlanParts, graph_of}
-use Rattle.strc_split_rings.specs.Plans.{IsPlanAnswer}
+use Rattle.strc_staged.specs.Plans.{IsPlanAnswer}
 
 -- What the stream equations answer.
 abbrev pub Answer : Type 0

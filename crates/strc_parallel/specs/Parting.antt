@@ -1,8 +1,8 @@
 -- What workers leave of a ring, as a ring on one thread.
 use Rattle.std.specs.Prelude.{◌≡◌, List, [], ◌∷◌, ◌++◌, map}
 use Rattle.strc_core.specs.Moves.{queues}
-use Rattle.strc_parcel.specs.Parcels.{ParcelView}
-use Rattle.strc_pipe.specs.declared.parts.Parts.{Parts}
+use Rattle.strc_core.specs.Parcels.{ParcelView}
+use Rattle.strc_stages.specs.declared.parts.Parts.{Parts}
 use Rattle.strc_ring.specs.Cores.{turned}
 use Rattle.strc_ring.specs.declared.shapes as shapes
 

@@ -6,8 +6,8 @@ use Rattle.strc_core.specs.Events.{may}
 use Rattle.strc_core.specs.States.{first_core}
 use Rattle.strc_stage.specs.Plans.{PlanParts}
 use Rattle.strc_staged.specs.Steps.{stage_work}
-use Rattle.strc_pipe.specs.Pipes.{PipeView, IsStateOf}
-use Rattle.strc_pipe.specs.Seeing.{Ring, core_of}
+use Rattle.strc_stages.specs.Pipes.{PipeView, IsStateOf}
+use Rattle.strc_stages.specs.Seeing.{Ring, core_of}
 use Rattle.strc_stages.specs.Collectors.{sees}
 use Rattle.strc_stages.specs.Stages.{see}
 use Rattle.strc_stages.specs.declared.collector.CollectorParts.{CollectorParts}

@@ -1,16 +1,16 @@
 -- What the rounds of a ring come to.
 use Rattle.std.specs.Prelude.{◌≡◌, true, Option}
 use Rattle.strc_dataflow.specs.Answer.{Outcome.StartupFault}
-use Rattle.strc_parcel.specs.declared.stop.Stop.{Stop}
+use Rattle.strc_core.specs.declared.stop.Stop.{Stop}
 use Rattle.strc_stage.specs.Plans.{PlanParts, graph_of, transformed_of}
-use Rattle.strc_outcome.specs.declared.outcome.Outcome.{Outcome}
-use Rattle.strc_outcome.specs.declared.refusal.RunRefusal.{RunRefusal}
-use Rattle.strc_outcome.specs.declared.refusal.RunRefusal.TheVariants as refused
+use Rattle.strc_refusal.specs.declared.outcome.Outcome.{Outcome}
+use Rattle.strc_refusal.specs.declared.run_refusal.RunRefusal.{RunRefusal}
+use Rattle.strc_refusal.specs.declared.run_refusal.RunRefusal.TheVariants as refused
 use Rattle.strc_core.specs.Events.{is_over}
 use Rattle.strc_core.specs.States.{IsStart}
 use Rattle.strc_staged.specs.Laws.{TellsOutcome}
 use Rattle.strc_staged.specs.Steps.{Gathered}
-use Rattle.strc_pipe.specs.Pipes.{Beginning, PipeView, IsStateOf, IsSomeState}
+use Rattle.strc_stages.specs.Pipes.{Beginning, PipeView, IsStateOf, IsSomeState}
 use Rattle.strc_ring.specs.Cores.{core_of_parts}
 use Rattle.strc_ring.specs.declared.shapes.Parts.{Parts}
 use Rattle.strc_stages.specs.Collectors.{sees}

@@ -2,7 +2,7 @@
 use Rattle.std.specs.Prelude.{ℕ, suc, List, [], ◌∷◌, if◌then◌else◌, slice_index_or}
 use Rattle.strc_semantics.specs.declared.word.Word.{Word}
 use Rattle.strc_graph.specs.Graphs.{NodeCode, gives_words}
-use Rattle.strc_outcome.specs.Tapes.{TapeView, tape}
+use Rattle.strc_refusal.specs.Tapes.{TapeView, tape}
 use Rattle.strc_staged.specs.Steps.{Gathered}
 
 -- The tapes of these nodes, of which the first has this number; its list of words has that one.

@@ -2,22 +2,22 @@
 
 ghost use Rattle.std.specs.Prelude.{◌≡◌, ◌≤◌, length, map, IfOk, IfErr};
 ghost use Rattle.strc_graph.specs.NodeView.{node_view};
-ghost use Rattle.strc_order.specs.Greedy.{firings_of};
+ghost use Rattle.strc_schedule.specs.Greedy.{firings_of};
 ghost use Rattle.strc_admissible.specs.Machine.{rounds_run};
-ghost use Rattle.strc_circuit.specs.Circuits.{circuit_view, IsReady};
-ghost use Rattle.strc_outcome.specs.declared.refusal.RunRefusal.TheVariants as refused;
+ghost use Rattle.strc_rings.specs.Circuits.{circuit_view, IsReady};
+ghost use Rattle.strc_refusal.specs.declared.run_refusal.RunRefusal.TheVariants as refused;
 ghost use Rattle.strc_runner.specs.Running.{IsMachine, machine_view};
-ghost use Rattle.strc_split_rings.specs.Plans.{need_of};
+ghost use Rattle.strc_staged.specs.Plans.{need_of};
 ghost use Rattle.strc_parallel.specs.Answers.{AnswersPlan};
 ghost use Rattle.strc_parallel.specs.Alone.{HasRun};
 
 use crate::naming::renamed;
 use crate::telling::faulted;
 use std::alloc::Global;
-use strc_circuit::circuit::Circuit;
 use strc_launch::{Startup, start_up};
-use strc_outcome::outcome::Outcome;
-use strc_outcome::refusal::RunRefusal;
+use strc_refusal::outcome::Outcome;
+use strc_refusal::run_refusal::RunRefusal;
+use strc_rings::circuit::Circuit;
 use strc_runner::machine::Machine;
 use strc_sched::plain::run_units;
 use strc_stage::plan::Plan;

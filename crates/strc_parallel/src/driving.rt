@@ -1,7 +1,7 @@
 // A ring that its workers left goes on on one thread.
 
 ghost use Rattle.std.specs.Prelude.{IfOk};
-ghost use Rattle.strc_pipe.specs.Pipes.{Beginning, IsStateOf};
+ghost use Rattle.strc_stages.specs.Pipes.{Beginning, IsStateOf};
 ghost use Rattle.strc_ring.specs.Cores.{core_of_parts};
 ghost use Rattle.strc_stages.specs.Collectors.{sees};
 ghost use Rattle.strc_stages.specs.Stages.{see};
@@ -10,9 +10,8 @@ ghost use Rattle.strc_parallel.specs.Running.{Drives, IsLeft};
 use crate::parting::parts_of;
 use std::alloc::Global;
 use strc_base::memory::NoMemory;
-use strc_pipe::Pipe;
 use strc_ring::Parts;
-use strc_stages::{Collector, Stage};
+use strc_stages::{Collector, Pipe, Stage};
 
 /// The collector of a ring that workers left, after its last parcel. Where a worker ended before
 /// that, what is left of the events happens here.

@@ -1,13 +1,13 @@
 // Outcomes of rounds after fission, by the nodes before it.
 
 ghost use Rattle.std.specs.Prelude.{◌≡◌, map};
-ghost use Rattle.strc_outcome.specs.Tapes.{tape_view};
+ghost use Rattle.strc_refusal.specs.Tapes.{tape_view};
 ghost use Rattle.strc_split.specs.Named as names;
 ghost use Rattle.strc_parallel.specs.Naming.{AreRenamed, IsRenamed, renamed_tape};
 
 use crate::firings::old_firing;
 use strc_fiss::split::Origin;
-use strc_outcome::outcome::{Outcome, Round, Tape};
+use strc_refusal::outcome::{Outcome, Round, Tape};
 use strc_stage::plan::Plan;
 
 /// The outcome of a plan's rounds, which names nodes after fission, by the nodes before it. It

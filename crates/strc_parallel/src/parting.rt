@@ -6,9 +6,9 @@ ghost use Rattle.strc_parallel.specs.Parting.{AreParts};
 
 use std::alloc::Global;
 use strc_base::memory::NoMemory;
-use strc_parcel::Parcel;
-use strc_pipe::Parts;
+use strc_core::Parcel;
 use strc_ring::{Part, Parts as Ended};
+use strc_stages::Parts;
 
 /// The parts that workers left, as those of a ring on one thread, where each link stands with the
 /// actor before it: the one before the first stage is the collector's.

@@ -2,13 +2,13 @@
 
 ghost use Rattle.std.specs.Prelude.{◌≡◌, ◌<◌, ◌≤◌, ◌^◌, ℕ, ℤ, List, length, true, false};
 ghost use Rattle.std.specs.Prelude.{IfOk, IfErr};
-ghost use Rattle.strc_outcome.specs.declared.refusal.RunRefusal.TheVariants as refused;
+ghost use Rattle.strc_refusal.specs.declared.run_refusal.RunRefusal.TheVariants as refused;
 ghost use Rattle.strc_core.specs.declared.event.Event.{Event};
 ghost use Rattle.strc_core.specs.States.{IsStart};
-ghost use Rattle.strc_split_rings.specs.Plans.{need_of};
+ghost use Rattle.strc_staged.specs.Plans.{need_of};
 ghost use Rattle.strc_stages.specs.Collectors.{sees};
 ghost use Rattle.strc_stages.specs.Stages.{see};
-ghost use Rattle.strc_pipe.specs.Seeing as pipes;
+ghost use Rattle.strc_stages.specs.Seeing as pipes;
 ghost use Rattle.strc_launch.specs.Launches.{IsLaunch, start_of};
 ghost use Rattle.strc_parallel.specs.Answers.{AnswersPlan};
 ghost use Rattle.strc_parallel.specs.Running.{EndsSo, IsBegun};
@@ -18,12 +18,11 @@ use crate::telling::{faulted, outcome_of};
 use std::alloc::Global;
 use strc_base::memory::NoMemory;
 use strc_launch::{Launch, Ring, Stages, launch};
-use strc_outcome::outcome::Outcome;
-use strc_outcome::refusal::RunRefusal;
-use strc_pipe::Event;
+use strc_refusal::outcome::Outcome;
+use strc_refusal::run_refusal::RunRefusal;
 use strc_semantics::fault::Cause;
 use strc_stage::plan::Plan;
-use strc_stages::{Collector, Stage};
+use strc_stages::{Collector, Event, Stage};
 
 /// The stages of a plan after start-up, in whatever state events have led to.
 #[derive(Drop)]
@@ -35,7 +34,7 @@ pub struct Pipe {
 /// A ring of stages, or the fault of start-up.
 #[derive(Drop)]
 pub enum State {
-    Going(strc_pipe::Pipe<Stage, Collector>),
+    Going(strc_stages::Pipe<Stage, Collector>),
     Faulted {
         node: u32,
         firing: u64,
@@ -138,7 +137,7 @@ fn state_of(alloc: Global, launched: Launch) -> Result<State, NoMemory>
 }
 
 /// A ring of stages before any event.
-fn ring_of(alloc: Global, ring: Ring) -> Result<strc_pipe::Pipe<Stage, Collector>, NoMemory>
+fn ring_of(alloc: Global, ring: Ring) -> Result<strc_stages::Pipe<Stage, Collector>, NoMemory>
     requires start { IsStart (start_of ring) }
     ensures { IfOk result (IsFirstOf ring) }
 {
@@ -147,7 +146,7 @@ fn ring_of(alloc: Global, ring: Ring) -> Result<strc_pipe::Pipe<Stage, Collector
         free,
         collector,
     } = ring;
-    strc_pipe::Pipe::new(alloc, stages, free, collector)
+    strc_stages::Pipe::new(alloc, stages, free, collector)
 }
 
 /// The outcome that a collector has come to.

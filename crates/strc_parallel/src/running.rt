@@ -2,7 +2,7 @@
 
 ghost use Rattle.std.specs.Prelude.{◌<◌, ◌≤◌, length, IfOk, IfErr};
 ghost use Rattle.strc_core.specs.States.{IsStart};
-ghost use Rattle.strc_split_rings.specs.Plans.{need_of};
+ghost use Rattle.strc_staged.specs.Plans.{need_of};
 ghost use Rattle.strc_parallel.specs.Answers.{AnswersPlan};
 ghost use Rattle.strc_launch.specs.Launches.{IsLaunch, start_of};
 ghost use Rattle.strc_parallel.specs.Running.{Drives, HasEnded, IsBegun, IsEndOf};
@@ -15,12 +15,11 @@ use std::sync::Wait;
 use std::thread::Threads;
 use strc_base::memory::NoMemory;
 use strc_launch::{Launch, Ring, cut, launch};
-use strc_outcome::outcome::Outcome;
-use strc_outcome::refusal::RunRefusal;
-use strc_ring::{Failure, Start, run_ring};
+use strc_refusal::outcome::Outcome;
+use strc_refusal::run_refusal::RunRefusal;
+use strc_ring::{Failure, Gate, Start, run_ring};
 use strc_stage::plan::Plan;
 use strc_stages::{Collector, Stage};
-use strc_worker::Gate;
 
 /// Start-up, and then so many rounds by the stages of the plan for so many workers, one for each of
 /// them or for each group of nodes where these are fewer (Gordon, Thies and Amarasinghe 2006:

@@ -5,7 +5,7 @@ use crate::rings::begin;
 use crate::telling::told_collector;
 use std::test::Fail;
 use strc_parallel::pipe::State;
-use strc_pipe::Event;
+use strc_stages::Event;
 
 /// More events than the ring has.
 const MOST: u32 = 1000;

@@ -9,10 +9,10 @@ use std::sync::atomic::{AtomicU64, Ordering};
 use std::test::Fail;
 use std::thread;
 use std::thread::Threads;
-use strc_parcel::Parcel;
+use strc_core::Parcel;
+use strc_ring::{Actor, Gate};
 use strc_run::run::run;
 use strc_stages::Stage;
-use strc_worker::{Actor, Gate};
 
 /// The first stage's second round waits for the second stage's first, and that one for it.
 #[derive(Drop)]

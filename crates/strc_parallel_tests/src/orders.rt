@@ -7,8 +7,8 @@ use crate::telling::told;
 use std::alloc::Global;
 use std::process::Abort;
 use std::test::Fail;
-use strc_outcome::outcome::Outcome;
 use strc_parallel::pipe::Pipe;
+use strc_refusal::outcome::Outcome;
 use strc_sched::plain::run_plain;
 
 /// How many lists of events there are for each program and number of workers.

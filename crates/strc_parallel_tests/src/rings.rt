@@ -6,7 +6,7 @@ use std::alloc::Global;
 use std::test::Fail;
 use strc_launch::cut;
 use strc_parallel::pipe::Pipe;
-use strc_pipe::Event;
+use strc_stages::Event;
 
 /// A case after start-up, cut into stages for so many workers.
 pub fn begin(alloc: Global, case: &Case<'_>, workers: u32) -> Result<Pipe, Fail> {

@@ -2,8 +2,8 @@
 // a space; the tapes, with a semicolon between two; and the fault.
 
 use std::alloc::{AllocError, Global};
-use strc_outcome::outcome::{Outcome, Round, Tape};
-use strc_parcel::Stop;
+use strc_core::Stop;
+use strc_refusal::outcome::{Outcome, Round, Tape};
 use strc_semantics::fault::Cause;
 use strc_semantics::word::Word;
 use strc_stages::CollectorParts;

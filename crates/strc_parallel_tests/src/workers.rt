@@ -10,10 +10,10 @@ use std::process::Abort;
 use std::sync::Wait;
 use std::test::Fail;
 use std::thread::Threads;
-use strc_outcome::outcome::Outcome;
 use strc_parallel::running::run_stages;
+use strc_refusal::outcome::Outcome;
+use strc_ring::OpenGate;
 use strc_sched::plain::input_needed;
-use strc_worker::OpenGate;
 
 /// The outcome of a case by so many workers.
 fn outcome_of<R: Threads + Wait + Sync>(

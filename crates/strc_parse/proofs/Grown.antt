@@ -7,8 +7,8 @@ use Rattle.strc_grammar.specs.declared.error.ReadError.{ReadError}
 use Rattle.strc_grammar.specs.Grammar.{kinds}
 use Rattle.strc_grammar.specs.Reading.{Fails, Gives, Tall, one_taller}
 use Rattle.strc_grammar.proofs.Repeated.{Fails-then}
-use Rattle.strc_rules.specs.declared.parsed.Parsed.{Parsed}
-use Rattle.strc_rules.specs.Seen.{parsed}
+use Rattle.strc_grammar.specs.declared.parsed.Parsed.{Parsed}
+use Rattle.strc_grammar.specs.Seen.{parsed}
 use Rattle.strc_parse.specs.Kept.{IsGrown}
 
 module _ {T B : Type 0} (view : T → B) (reader : List TokenKind → Tall B)

@@ -5,7 +5,7 @@ use Rattle.std.proofs.lemmas.Bool.{cases_Bool}
 use Rattle.strc_lex.specs.declared.token.TokenKind.{TokenKind}
 use Rattle.strc_grammar.specs.Grammar.{lowest_precedence}
 use Rattle.strc_grammar.specs.Reading.{tail}
-use Rattle.strc_rules.proofs.Loops.{expression_within}
+use Rattle.strc_grammar.proofs.Loops.{expression_within}
 use Rattle.std.specs.Prelude.{◌||◌}
 use Rattle.std.specs.List.{list_any}
 use denote.Enum.Bare.{sameb}

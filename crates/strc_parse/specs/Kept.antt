@@ -9,7 +9,7 @@ use Rattle.strc_grammar.specs.declared.error.ReadError.{ReadError}
 use Rattle.strc_grammar.specs.declared.error.ReadError.TheVariants as errors
 use Rattle.strc_grammar.specs.Grammar.{kinds}
 use Rattle.strc_grammar.specs.Reading.{Fails, expect, raised}
-use Rattle.strc_rules.specs.declared.parsed.Parsed.{Parsed}
+use Rattle.strc_grammar.specs.declared.parsed.Parsed.{Parsed}
 
 -- the part with this height and what was read next, with the height of the higher
 abbrev pub IsBoth : {A B : Type 0} → A → ℕ → Result (Parsed B) ReadError

@@ -7,8 +7,8 @@ use Rattle.strc_syntax.specs.declared.tree.Stmt.{Stmt}
 use Rattle.strc_grammar.specs.declared.error.ReadError.{ReadError}
 use Rattle.strc_grammar.specs.Grammar.{kinds}
 use Rattle.strc_syntax.specs.View.{stmt_view}
-use Rattle.strc_rules.specs.declared.parsed.Parsed.{Parsed}
-use Rattle.strc_rules.specs.Seen.{parsed}
+use Rattle.strc_grammar.specs.declared.parsed.Parsed.{Parsed}
+use Rattle.strc_grammar.specs.Seen.{parsed}
 use Rattle.strc_grammar.specs.Reading.{Gives}
 use Rattle.strc_grammar.specs.Streams.{statement}
 

@@ -4,19 +4,20 @@
 ghost use Rattle.std.specs.Prelude.{◌≡◌, ◌-◌, ◌<◌, max, map};
 ghost use Rattle.strc_syntax.specs.View.{expr_view, stmt_view, member_view};
 ghost use Rattle.strc_grammar.specs.Grammar.{kinds};
-ghost use Rattle.strc_rules.specs.Seen.{parsed, parsed_all};
+ghost use Rattle.strc_grammar.specs.Seen.{parsed, parsed_all};
 ghost use Rattle.strc_grammar.specs.Streams as spec;
 ghost use Rattle.strc_grammar.specs.Reading as reading;
 ghost use Rattle.strc_grammar.specs.Reading.{Gives};
 ghost use Rattle.strc_parse.specs.Readers.{ReadsStatements};
 
 use crate::kept::{node_of, node_of_three, node_of_two, with_next, with_node_height};
+use crate::place::placed;
 use crate::simple::{argument, bracketed, ended, for_heading};
 use std::alloc::Global;
+use strc_grammar::lookahead::{is_keyword, is_punctuation, peek, raised, tail, unexpected};
+use strc_grammar::parsed::Parsed;
 use strc_grammar::{Fault, ReadError};
 use strc_lex::token::{Keyword, Punctuation, Token, TokenKind};
-use strc_rules::lookahead::{is_keyword, is_punctuation, peek, raised, tail, unexpected};
-use strc_rules::parsed::Parsed;
 use strc_syntax::node::{block_of, for_of, if_else_of, if_of, while_of};
 use strc_syntax::tree::{Expr, Member, Stmt};
 
@@ -84,7 +85,7 @@ pub(crate) fn members(
 }
 
 impl<F: Fn(Global, usize, &[Token]) -> Result<Parsed<'_, Stmt>, ReadError>> StatementRules<F> {
-    /// A statement one depth below.
+    /// A statement one depth below, with its place in the text.
     fn below<'t>(&self, tokens: &'t [Token]) -> Result<Parsed<'t, Stmt>, ReadError>
         requires deep { 0 < self.now.depth }
         requires reads { ReadsStatements (self.now.depth - 1)
@@ -92,7 +93,8 @@ impl<F: Fn(Global, usize, &[Token]) -> Result<Parsed<'_, Stmt>, ReadError>> Stat
         ensures { Gives (parsed stmt_view) result
             (spec.statement (self.now.depth - 1) (kinds tokens.now)) }
     {
-        (self.reader)(self.alloc, self.depth - 1, tokens)
+        let read = (self.reader)(self.alloc, self.depth - 1, tokens)?;
+        placed(self.alloc, tokens, read)
     }
 
     #[tactic(auto, unfolding(strc_grammar::specs::Streams::shallow))]

@@ -10,12 +10,12 @@ ghost use Rattle.strc_grammar.specs.Reading.{Gives};
 use crate::control::{members, statements};
 use std::alloc::Global;
 use strc_base::name::Name;
+use strc_grammar::lookahead::{expect, is_keyword, name, tail, unexpected};
+use strc_grammar::parameter::parameters;
+use strc_grammar::parsed::Parsed;
+use strc_grammar::stream_type::{composite_kind, stream_type};
 use strc_grammar::{HEIGHT_LIMIT, ReadError};
 use strc_lex::token::{Keyword, Punctuation, Token};
-use strc_rules::lookahead::{expect, is_keyword, name, tail, unexpected};
-use strc_rules::parameter::parameters;
-use strc_rules::parsed::Parsed;
-use strc_rules::stream_type::{composite_kind, stream_type};
 use strc_syntax::tree::{CompositeKind, CompositeTree, Decl, FilterTree, StreamTree, StreamType};
 
 /// The name of a stream, its parameters and the brace that opens it.

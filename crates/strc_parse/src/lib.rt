@@ -2,7 +2,7 @@
 // Gives its syntax tree, or the refusal of tokens that no program has.
 // The theorem to rely on: `parse` answers Ok exactly with the tree of height at most `HEIGHT_LIMIT`
 // that has this spelling. `laws`: a text spells one program.
-// Stands on strc_rules, which reads what has no statement in it, on strc_grammar, whose rules it
+// Stands on strc_grammar, which reads what has no statement in it, on strc_grammar, whose rules it
 // follows, on strc_syntax, whose trees it makes, and on strc_lex, whose tokens it reads.
 #![tactic(auto)]
 
@@ -12,6 +12,7 @@ mod declaration;
 mod kept;
 pub mod laws;
 mod member;
+mod place;
 mod program;
 mod simple;
 

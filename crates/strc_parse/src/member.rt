@@ -3,7 +3,7 @@
 ghost use Rattle.std.specs.Prelude.{◌≡◌, ◌-◌, ◌<◌, map};
 ghost use Rattle.strc_syntax.specs.View.{expr_view, rate_view, member_view};
 ghost use Rattle.strc_grammar.specs.Grammar.{kinds};
-ghost use Rattle.strc_rules.specs.Seen.{parsed, parsed_all};
+ghost use Rattle.strc_grammar.specs.Seen.{parsed, parsed_all};
 ghost use Rattle.strc_parse.specs.Seen.{block_view, phase_view, seen_rate};
 ghost use Rattle.strc_grammar.specs.Streams as spec;
 ghost use Rattle.strc_grammar.specs.Reading.{Gives};
@@ -14,11 +14,12 @@ use crate::control::StatementRules;
 use crate::kept::{both, with_mark, with_next};
 use std::alloc::Global;
 use strc_grammar::ReadError;
+use strc_grammar::expression::{LOWEST_PRECEDENCE, expression};
+use strc_grammar::lookahead::{expect, is_punctuation, peek, tail, unexpected};
+use strc_grammar::parsed::Parsed;
+use strc_grammar::place::span_of;
+use strc_grammar::variable::declared;
 use strc_lex::token::{Keyword, Punctuation, Token, TokenKind};
-use strc_rules::expression::{LOWEST_PRECEDENCE, expression};
-use strc_rules::lookahead::{expect, is_punctuation, peek, tail, unexpected};
-use strc_rules::parsed::Parsed;
-use strc_rules::variable::declared;
 use strc_syntax::node::{init_of, prework_of, work_of};
 use strc_syntax::tree::{Expr, Member, RateKind, RateTree, Stmt};
 
@@ -77,6 +78,7 @@ fn rates(
         found.push(RateTree {
             kind,
             rate: rate.value,
+            place: span_of(rest, rate.rest),
         })?;
         highest = highest.max(rate.height);
         rest = rate.rest;

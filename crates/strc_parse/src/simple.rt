@@ -4,23 +4,24 @@ ghost use Rattle.std.specs.Prelude.{◌≡◌, ◌-◌, ◌<◌};
 ghost use Rattle.strc_syntax.specs.View.{expr_view, stmt_view};
 ghost use Rattle.strc_grammar.specs.Grammar.{kinds};
 ghost use Rattle.std.specs.Option.{option_map};
-ghost use Rattle.strc_rules.specs.Seen.{parsed};
+ghost use Rattle.strc_grammar.specs.Seen.{parsed};
 ghost use Rattle.strc_parse.specs.Seen.{heading_view, after_first_view};
 ghost use Rattle.strc_grammar.specs.Reading as spec;
 ghost use Rattle.strc_grammar.specs.Reading.{Gives};
 
 use crate::kept::{both, node_of, with_mark, with_node_height};
+use crate::place::placed;
 use std::alloc::Global;
 use std::mem;
 use strc_base::name::Name;
 use strc_grammar::ReadError;
+use strc_grammar::expression::{LOWEST_PRECEDENCE, closed, expression};
+use strc_grammar::lookahead::{expect, is_punctuation, peek, raised, tail};
+use strc_grammar::operator::assign_at;
+use strc_grammar::parsed::Parsed;
+use strc_grammar::part::raise;
+use strc_grammar::variable::declared;
 use strc_lex::token::{Keyword, Punctuation, Token, TokenKind};
-use strc_rules::expression::{LOWEST_PRECEDENCE, closed, expression};
-use strc_rules::lookahead::{expect, is_punctuation, peek, raised, tail};
-use strc_rules::operator::assign_at;
-use strc_rules::parsed::Parsed;
-use strc_rules::part::raise;
-use strc_rules::variable::declared;
 use strc_syntax::tree::{AssignOperator, Expr, Stmt};
 
 /// The declaration as a statement.
@@ -248,8 +249,8 @@ fn last_part(alloc: Global, depth: usize, tokens: &[Token]) -> Result<Parsed<'_,
     requires { 0 < depth }
     ensures { Gives (parsed stmt_view) result (spec.last_part depth (kinds tokens.now)) }
 {
-    let read = optional(alloc, depth, Punctuation::CloseParen, tokens);
-    with_mark(Punctuation::CloseParen, read)
+    let read = optional(alloc, depth, Punctuation::CloseParen, tokens)?;
+    with_mark(Punctuation::CloseParen, placed(alloc, tokens, read))
 }
 
 /// `condition; step)`, and the height of the higher.
@@ -281,6 +282,7 @@ pub(crate) fn for_heading(
 {
     let opened = expect(Punctuation::OpenParen, tokens)?;
     let read = ended(alloc, depth, opened)?;
+    let read = placed(alloc, opened, read)?;
     both(
         read.value,
         read.height,

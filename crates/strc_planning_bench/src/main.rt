@@ -2,12 +2,11 @@
 // programs of filters that look ahead.
 // Takes the word `times`, or no word.
 // Gives a line for each graph: its nodes and channels, and how often its last node fires in a
-// round, the units of its schedule and the items of its buffers; and for each program how often
-// its source fires before the first round. With `times` also the least of 999 times that planning
-// took, and how it grew.
-// There is no theorem here; `balance`, `startup` and `schedule` have their own.
-// Stands on strc_balance, strc_startup and strc_order, which it times, on strc_graph, whose graphs
-// it makes, and on strc_run, which compiles the programs.
+// round, the units of its schedule and the items of its buffers; and for each program how often its
+// source fires before the first round. With `times` also the least of 999 times that planning took,
+// and how it grew. There is no theorem here; `balance`, `startup` and `schedule` have their own.
+// Stands on strc_balance, strc_startup and strc_schedule, which it times, on strc_graph, whose
+// graphs it makes, and on strc_run, which compiles the programs.
 #![tactic(auto)]
 
 mod peeks;

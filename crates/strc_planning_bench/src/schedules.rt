@@ -6,9 +6,9 @@ use std::time::{Duration, Instant};
 use strc_balance::balance::balance;
 use strc_balance::condition::can_balance;
 use strc_graph::graph::Graph;
-use strc_order::error::ScheduleError;
-use strc_order::parts::Schedule;
-use strc_order::planning::schedule;
+use strc_schedule::error::ScheduleError;
+use strc_schedule::parts::Schedule;
+use strc_schedule::planning::schedule;
 use strc_startup::startup::startup;
 
 /// How many units a schedule has, and how many items its buffers hold together; or that one would

@@ -16,12 +16,12 @@ use std::test::Fail;
 use strc_balance::balance::balance;
 use strc_balance::condition::can_balance;
 use strc_graph::graph::{Graph, Node};
-use strc_order::laws::schedules_are_runnable;
-use strc_order::parts::Schedule;
-use strc_order::planning::schedule;
 use strc_sched::outcome::{Outcome, Tape};
 use strc_sched::plain::run_plain;
-use strc_sched::refusal::RunRefusal;
+use strc_sched::run_refusal::RunRefusal;
+use strc_schedule::laws::schedules_are_runnable;
+use strc_schedule::parts::Schedule;
+use strc_schedule::planning::schedule;
 use strc_semantics::word::Word;
 use strc_startup::startup::startup;
 

@@ -6,9 +6,9 @@ use std::test::Fail;
 use strc_balance::balance::balance;
 use strc_balance::condition::can_balance;
 use strc_graph::graph::Graph;
-use strc_order::error::ScheduleError;
-use strc_order::planning::schedule;
-use strc_order::unit::Unit;
+use strc_schedule::error::ScheduleError;
+use strc_schedule::planning::schedule;
+use strc_schedule::unit::Unit;
 use strc_startup::startup::startup;
 
 /// A row a line: nodes, channels, how many items are on the last channel, and the answer: the units

@@ -1,7 +1,7 @@
 // The sizes of buffers while given orders fire, in a graph in which a filter fires as two copies.
 
 ghost use Rattle.std.specs.Prelude.{◌≡◌, ◌<◌, All, IsTrue};
-ghost use Rattle.strc_order.specs.Peaks.{HasNodes};
+ghost use Rattle.strc_schedule.specs.Peaks.{HasNodes};
 
 use crate::small_graphs::Kind::{Reader, Writer};
 use crate::small_graphs::{ends_of, graph_of, node_of, row_of, shown};
@@ -11,9 +11,9 @@ use std::test::Fail;
 use strc_check::constants::Constants;
 use strc_graph::graph::{Copied, Fission, Graph, Node};
 use strc_graph::instance::Instance;
-use strc_order::error::ScheduleError;
-use strc_order::sizing::sizes;
-use strc_order::unit::Unit;
+use strc_schedule::error::ScheduleError;
+use strc_schedule::sizing::sizes;
+use strc_schedule::unit::Unit;
 use strc_syntax::tree::{FilterTree, ItemType, Member};
 use strc_work::lowering::lower;
 

@@ -4,7 +4,7 @@
 ghost use Rattle.std.specs.Prelude.{◌≡◌, IfOk, map, true};
 ghost use Rattle.strc_graph.specs.NodeView.{copied_view, node_view};
 ghost use Rattle.strc_semantics.specs.Filters as filters;
-ghost use Rattle.strc_circuit.specs.Circuits.{IsReady, circuit_view};
+ghost use Rattle.strc_rings.specs.Circuits.{IsReady, circuit_view};
 ghost use Rattle.strc_runner.specs.Actors.{AreStartable, CanStart, CanStartCopy, CanStartNode};
 ghost use Rattle.strc_runner.specs.Batches.{IsOrderOf};
 
@@ -13,12 +13,12 @@ use crate::small_graphs::{Kind, ends_of, graph_of, node_of};
 use std::alloc::{AllocError, Global};
 use std::process::Abort;
 use std::test::Fail;
-use strc_circuit::circuit::Circuit;
 use strc_code::code::Code;
 use strc_graph::graph::{Copied, Fission, Graph, Node};
-use strc_order::unit::Unit;
+use strc_rings::circuit::Circuit;
 use strc_runner::batches::Order;
 use strc_runner::machine::Machine;
+use strc_schedule::unit::Unit;
 use strc_semantics::word::Word;
 use strc_work::firing::Fire;
 

@@ -4,10 +4,10 @@ use Rattle.std.proofs.Common.{◌∙◌, Bool, false, not, ◌||◌, Some, Ok, E
 use Rattle.std.specs.Prelude.{if◌then◌else◌}
 use Rattle.strc_base.specs.Results.{result_and_then}
 use Rattle.strc_semantics.specs.Filters.{push_rate, pop_rate, item_count, window_size}
-use Rattle.strc_peeks.specs.declared.counts.Counts.{Counts}
-use Rattle.strc_peeks.specs.declared.sight.PeekBounds.{PeekBounds}
-use Rattle.strc_peeks.specs.Counts.{stmts_counts}
-use Rattle.strc_peeks.specs.Peeks.{body_sights}
+use Rattle.strc_rate.specs.declared.counts.Counts.{Counts}
+use Rattle.strc_rate.specs.declared.sight.PeekBounds.{PeekBounds}
+use Rattle.strc_rate.specs.Counts.{stmts_counts}
+use Rattle.strc_rate.specs.Peeks.{body_sights}
 use Rattle.strc_rate.specs.declared.rates.RateError.TheVariants.{RateLimit}
 use Rattle.strc_rate.specs.Rates.{are_within_limit, same_rate, with_closed_peeks, counted}
 use Rattle.strc_syntax.specs.Tree as tree

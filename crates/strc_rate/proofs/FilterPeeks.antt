@@ -11,13 +11,13 @@ use Rattle.strc_semantics.specs.Filters.{sized_fields, body_block, body_rates, p
 use Rattle.strc_semantics.specs.Filters.{peek_rate, window_size}
 use Rattle.strc_semantics.specs.Closed.{AreClosed}
 use Rattle.strc_semantics.specs.Firing.{Port, Store, no_traffic, port_of, store_at}
-use Rattle.strc_peeks.specs.Counts.{stmts_counts}
-use Rattle.strc_peeks.specs.declared.counts.TheConstants.{COUNT_LIMIT}
-use Rattle.strc_peeks.specs.Entries.{peeks_of}
-use Rattle.strc_peeks.specs.Peeks.{is_closed, body_sights}
-use Rattle.strc_peeks.specs.Safe.{StmtsAreSafe}
-use Rattle.strc_peeks.proofs.Promised as text
-use Rattle.strc_peeks.proofs.Results.{and_first, and_second}
+use Rattle.strc_rate.specs.Counts.{stmts_counts}
+use Rattle.strc_rate.specs.declared.counts.TheConstants.{COUNT_LIMIT}
+use Rattle.strc_rate.specs.Entries.{peeks_of}
+use Rattle.strc_rate.specs.Peeks.{is_closed, body_sights}
+use Rattle.strc_rate.specs.PeeksSafe.{StmtsAreSafe}
+use Rattle.strc_rate.proofs.PeeksPromised as text
+use Rattle.strc_rate.proofs.Results.{and_first, and_second}
 use Rattle.strc_rate.specs.Rates.{BodyRates, within_limit, are_within_limit, checked}
 use Rattle.strc_rate.specs.Safe.{rates_of, ClosedPeeksNeverFault, EachPeekHasAnEntry}
 use Rattle.strc_rate.proofs.KeptRates.{limited, accepted_by, OfBodies, of_filters, bodies_closed}

@@ -21,10 +21,10 @@ use Rattle.strc_code.proofs.ClosedBodies.{body_closed}
 use Rattle.strc_rate.specs.declared.rates.RateError.{RateError}
 use Rattle.strc_rate.specs.declared.rates.RateError.TheVariants.{RateLimit, RateMismatch}
 use Rattle.strc_rate.specs.declared.rates.RateError.TheVariants.{PeekOutside}
-use Rattle.strc_peeks.specs.declared.counts.Counts.{Counts}
-use Rattle.strc_peeks.specs.declared.sight.PeekBounds.{PeekBounds}
-use Rattle.strc_peeks.specs.Counts.{stmts_counts}
-use Rattle.strc_peeks.specs.Peeks.{body_sights}
+use Rattle.strc_rate.specs.declared.counts.Counts.{Counts}
+use Rattle.strc_rate.specs.declared.sight.PeekBounds.{PeekBounds}
+use Rattle.strc_rate.specs.Counts.{stmts_counts}
+use Rattle.strc_rate.specs.Peeks.{body_sights}
 use Rattle.strc_base.specs.Results.{result_and_then}
 use Rattle.strc_rate.specs.Rates.{BodyRates, FilterRates, within_limit, are_within_limit}
 use Rattle.strc_rate.specs.Rates.{same_rate, some_outside, accepted_rates}
@@ -32,9 +32,9 @@ use Rattle.strc_rate.specs.Rates.{with_closed_peeks, counted, body_checked, work
 use Rattle.strc_rate.specs.Rates.{work_checked, some_prework, prework_checked, then_work, checked}
 use Rattle.strc_rate.specs.Kept.{CheckedRatesAreKept}
 use Rattle.strc_rate.specs.Safe.{rates_of}
-use Rattle.strc_peeks.proofs.Results.{and_first, and_second}
-use Rattle.strc_peeks.proofs.CountedMoves.{Moves, Counted}
-use Rattle.strc_peeks.proofs.StatementCounts.{stmts_counted}
+use Rattle.strc_rate.proofs.Results.{and_first, and_second}
+use Rattle.strc_rate.proofs.CountedMoves.{Moves, Counted}
+use Rattle.strc_rate.proofs.StatementCounts.{stmts_counted}
 
 -- a declared rate is at most 65,536
 pub limited : (rate : ℤ) → within_limit rate ≡ true → item_count rate ≤ 65536

@@ -2,3 +2,12 @@ pub mod Rates
 pub mod Kept
 pub mod Safe
 pub mod Verdicts
+pub mod Counts
+pub mod Entries
+pub mod Peeks
+pub mod Walk
+pub mod PeeksSafe
+pub mod Turns
+pub mod Promises
+pub mod StatelessPromises
+pub mod Rows

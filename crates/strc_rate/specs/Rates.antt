@@ -9,11 +9,11 @@ use Rattle.strc_syntax.specs.declared.tree.ItemType.TheVariants as item
 use Rattle.strc_semantics.specs.Filters.{Filter, work_block, work_rates, prework_block}
 use Rattle.strc_semantics.specs.Filters.{prework_rates, push_rate, pop_rate, peek_rate, item_count}
 use Rattle.strc_semantics.specs.Filters.{window_size}
-use Rattle.strc_peeks.specs.declared.counts.Counts.{Counts}
-use Rattle.strc_peeks.specs.declared.sight.PeekBounds.{PeekBounds}
-use Rattle.strc_peeks.specs.declared.sight.PeekBounds.TheVariants.{Outside}
-use Rattle.strc_peeks.specs.Counts.{stmts_counts}
-use Rattle.strc_peeks.specs.Peeks.{is_closed, body_sights}
+use Rattle.strc_rate.specs.declared.counts.Counts.{Counts}
+use Rattle.strc_rate.specs.declared.sight.PeekBounds.{PeekBounds}
+use Rattle.strc_rate.specs.declared.sight.PeekBounds.TheVariants.{Outside}
+use Rattle.strc_rate.specs.Counts.{stmts_counts}
+use Rattle.strc_rate.specs.Peeks.{is_closed, body_sights}
 use Rattle.strc_code.specs.declared.code.TheConstants.{RATE_LIMIT}
 use Rattle.strc_rate.specs.declared.rates.RateError.{RateError}
 use Rattle.strc_rate.specs.declared.rates.RateError.TheVariants.{RateLimit, RateUnknown}

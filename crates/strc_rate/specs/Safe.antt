@@ -5,8 +5,8 @@ use Rattle.strc_semantics.specs.declared.body.Body.TheVariants as body
 use Rattle.strc_semantics.specs.Filters.{Filter, body_block, body_rates, window_size}
 use Rattle.strc_semantics.specs.Closed.{IsClosedFilter}
 use Rattle.strc_semantics.specs.Firing.{port_of, store_at}
-use Rattle.strc_peeks.specs.Entries.{peeks_of}
-use Rattle.strc_peeks.specs.Safe.{StmtsAreSafe}
+use Rattle.strc_rate.specs.Entries.{peeks_of}
+use Rattle.strc_rate.specs.PeeksSafe.{StmtsAreSafe}
 use Rattle.strc_rate.specs.Rates.{BodyRates, FilterRates, checked}
 
 -- the rates of a body; without a prework the first firing is one of the work

@@ -1,9 +1,20 @@
-// Takes lowered code.
-// Gives its rates, counted from its text, and which of its peeks stay within their window.
-// The theorem to rely on: each firing without a fault pops and pushes exactly the rates.
-// Stands on strc_peeks, which counts and tells of peeks, on strc_code, whose codes it takes, on
-// strc_semantics, whose firings it speaks of, and on strc_syntax.
+// Takes a filter's code.
+// Gives the rates that its text comes to, counted in one walk, whether each peek is within its
+// window (`check`), and whether it has no state (`stateless`).
+// The theorems to rely on: `check`: Ok exactly where the counted rates are the declared ones and
+// each peek is possible, and then each firing keeps the rates; `body_peeks`: counts and bounds are
+// so in each run; `stateless_keeps_fields`.
+// Stands on strc_code, whose trees these are, and on strc_interval, which says what numbers
+// expressions can have and what a text writes.
 #![tactic(auto)]
 
+pub mod counts;
+mod expression_peeks;
 pub mod laws;
+pub mod peeks;
+pub mod peeks_laws;
 pub mod rates;
+pub mod sight;
+pub mod stateless;
+pub mod stateless_laws;
+mod unreached;

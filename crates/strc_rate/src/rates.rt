@@ -6,15 +6,15 @@ ghost use Rattle.strc_semantics.specs.Filters as filters;
 ghost use Rattle.strc_semantics.specs.Filters.{filter_of};
 ghost use Rattle.strc_rate.specs.Rates as spec;
 ghost use Rattle.strc_rate.specs.Kept.{KeepsRates};
-ghost use Rattle.strc_peeks.specs.Peeks as peeks;
+ghost use Rattle.strc_rate.specs.Peeks as peeks;
 ghost use Rattle.strc_rate.specs.Safe.{HasEntries, HasSafePeeks};
 ghost use Rattle.strc_rate.specs.Verdicts.{IsVerdict, body_view, rates_view};
 
+use crate::peeks::body_peeks;
+use crate::sight::{PeekBounds, is_closed};
 use std::alloc::{AllocError, AllocFailed, Global};
 use strc_base::memory::NoMemory;
 use strc_code::code::{Code, DeclaredRates, RATE_LIMIT};
-use strc_peeks::peeks::body_peeks;
-use strc_peeks::sight::{PeekBounds, is_closed};
 use strc_semantics::body::Body;
 use strc_syntax::tree::ItemType;
 use thiserror::Error;

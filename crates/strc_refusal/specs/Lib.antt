@@ -1,1 +1,3 @@
 pub mod Reports
+pub mod Sentences
+pub mod Tapes

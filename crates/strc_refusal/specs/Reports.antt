@@ -1,12 +1,12 @@
 -- How the refusals of the layers are reported.
-use Rattle.strc_scope.specs.declared.error.ElabError.{ElabError}
-use Rattle.strc_scope.specs.declared.error.ElabError.TheVariants as error
+use Rattle.strc_statements.specs.declared.error.ElabError.{ElabError}
+use Rattle.strc_statements.specs.declared.error.ElabErrorKind.TheVariants as error
 use Rattle.strc_balance.specs.declared.error.BalanceError.{BalanceError}
 use Rattle.strc_balance.specs.declared.error.BalanceError.TheVariants as unbalanced
 use Rattle.strc_startup.specs.declared.error.StartupError.{StartupError}
 use Rattle.strc_startup.specs.declared.error.StartupError.TheVariants as unprimed
-use Rattle.strc_order.specs.declared.error.ScheduleError.{ScheduleError}
-use Rattle.strc_order.specs.declared.error.ScheduleError.TheVariants as unscheduled
+use Rattle.strc_schedule.specs.declared.error.ScheduleError.{ScheduleError}
+use Rattle.strc_schedule.specs.declared.error.ScheduleError.TheVariants as unscheduled
 use Rattle.strc_refusal.specs.declared.refusal.Refusal.{Refusal}
 use Rattle.strc_refusal.specs.declared.refusal.Refusal.TheVariants as refusal
 

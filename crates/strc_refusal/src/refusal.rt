@@ -12,10 +12,10 @@ use strc_balance::error::BalanceError;
 use strc_base::memory;
 use strc_base::name::Name;
 use strc_check::spelled::spelled;
-use strc_order::error::ScheduleError;
-use strc_scope::error::ElabError;
+use strc_schedule::error::ScheduleError;
 use strc_semantics::fault::Cause;
 use strc_startup::error::StartupError;
+use strc_statements::error::{ElabError, ElabErrorKind};
 use thiserror::Error;
 
 /// Why a text is refused. Bytes, tokens, declarations, nodes and channels are numbered from 0.
@@ -149,20 +149,20 @@ impl From<ElabError> for Refusal {
     ghost from_gives = { λ e r. r ≡ refusal_of e };
 
     fn from(error: ElabError) -> Refusal {
-        match error {
-            ElabError::UnknownName { name } => Refusal::UnknownName { name },
-            ElabError::TypeMismatch { stream } => Refusal::TypeMismatch { stream },
-            ElabError::NoMain => Refusal::NoMain,
-            ElabError::ManyMains => Refusal::ManyMains,
-            ElabError::DepthLimit => Refusal::DepthLimit,
-            ElabError::NodeLimit => Refusal::NodeLimit,
-            ElabError::BadArguments { stream } => Refusal::BadArguments { stream },
-            ElabError::BadWeights { stream } => Refusal::BadWeights { stream },
-            ElabError::ConstFault { cause } => Refusal::ConstFault { cause },
-            ElabError::TwoInputs => Refusal::TwoInputs,
-            ElabError::TapeTwice { node } => Refusal::TapeTwice { node },
-            ElabError::Disconnected => Refusal::Disconnected,
-            ElabError::NoMemory => Refusal::NoMemory,
+        match error.into_kind() {
+            ElabErrorKind::UnknownName { name } => Refusal::UnknownName { name },
+            ElabErrorKind::TypeMismatch { stream } => Refusal::TypeMismatch { stream },
+            ElabErrorKind::NoMain => Refusal::NoMain,
+            ElabErrorKind::ManyMains => Refusal::ManyMains,
+            ElabErrorKind::DepthLimit => Refusal::DepthLimit,
+            ElabErrorKind::NodeLimit => Refusal::NodeLimit,
+            ElabErrorKind::BadArguments { stream } => Refusal::BadArguments { stream },
+            ElabErrorKind::BadWeights { stream } => Refusal::BadWeights { stream },
+            ElabErrorKind::ConstFault { cause } => Refusal::ConstFault { cause },
+            ElabErrorKind::TwoInputs => Refusal::TwoInputs,
+            ElabErrorKind::TapeTwice { node } => Refusal::TapeTwice { node },
+            ElabErrorKind::Disconnected => Refusal::Disconnected,
+            ElabErrorKind::NoMemory => Refusal::NoMemory,
         }
     }
 }

@@ -2,12 +2,12 @@
 use Rattle.std.proofs.Common.{◌≡◌, ◌++◌, List, [], ◌∷◌, refl, sym, ap, subst, ◌∙◌}
 use Rattle.std.proofs.Common.{append_assoc, append-nil, option_to_list}
 use Rattle.strc_core.specs.States.{Runs}
-use Rattle.strc_parcel.specs.Parcels.{ParcelView}
-use Rattle.strc_link.specs.declared.tx.Tx.{Tx}
-use Rattle.strc_link.specs.declared.rx.Rx.{Rx}
-use Rattle.strc_link.specs.Ends.{sent_by, got_by, IsLink}
-use Rattle.strc_worker.specs.declared.worked.Worked.{Worked}
-use Rattle.strc_worker.specs.Working.{put_back, stepped}
+use Rattle.strc_core.specs.Parcels.{ParcelView}
+use Rattle.strc_ring.specs.declared.tx.Tx.{Tx}
+use Rattle.strc_ring.specs.declared.rx.Rx.{Rx}
+use Rattle.strc_ring.specs.Ends.{sent_by, got_by, IsLink}
+use Rattle.strc_ring.specs.declared.worked.Worked.{Worked}
+use Rattle.strc_ring.specs.Working.{put_back, stepped}
 use Rattle.strc_ring.specs.declared.shapes.Start.{Start}
 use Rattle.strc_ring.specs.declared.shapes.Part.{Part}
 use Rattle.strc_ring.specs.declared.shapes.Parts.{Parts}

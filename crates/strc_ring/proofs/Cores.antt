@@ -3,8 +3,8 @@ use Rattle.std.proofs.Common.{◌≡◌, refl, sym, ap, subst, ◌∙◌, List, 
 use Rattle.std.proofs.Common.{Option, option_to_list}
 use Rattle.strc_core.specs.Actors.{Stage, Collector, Work, Step, Collects}
 use Rattle.strc_core.specs.States.{Runs, Chained, IsStart, IsState}
-use Rattle.strc_parcel.specs.declared.stop.Stop.{Stop}
-use Rattle.strc_parcel.specs.Parcels.{ParcelView, Load}
+use Rattle.strc_core.specs.declared.stop.Stop.{Stop}
+use Rattle.strc_core.specs.Parcels.{ParcelView, Load}
 use Rattle.strc_ring.specs.declared.shapes.Start.{Start}
 use Rattle.strc_ring.specs.declared.shapes.Part.{Part}
 use Rattle.strc_ring.specs.declared.shapes.Parts.{Parts}

@@ -3,8 +3,8 @@ use Rattle.std.proofs.Common.{◌≡◌, ℕ, suc, List, [], ◌∷◌, length}
 use Rattle.std.proofs.Common.{refl, sym, subst, ◌∙◌, arith}
 use Rattle.std.specs.PromisedHandle.{KeepsAt, KeepsEach}
 use Rattle.core.specs.declared.thread.PromisedHandle.{PromisedHandle}
-use Rattle.strc_parcel.specs.Parcels.{ParcelView}
-use Rattle.strc_worker.specs.declared.worked.Worked.{Worked}
+use Rattle.strc_core.specs.Parcels.{ParcelView}
+use Rattle.strc_ring.specs.declared.worked.Worked.{Worked}
 use Rattle.strc_ring.specs.declared.begun.Begun.{Begun}
 use Rattle.strc_ring.specs.declared.shapes.Seat.{Seat}
 use Rattle.strc_ring.specs.Children.{begun_of}

@@ -1,7 +1,7 @@
 -- The threads of the workers.
 use Rattle.std.specs.Prelude.{List, map}
 use Rattle.core.specs.declared.thread.PromisedHandle.{PromisedHandle}
-use Rattle.strc_worker.specs.declared.worked.Worked.{Worked}
+use Rattle.strc_ring.specs.declared.worked.Worked.{Worked}
 use Rattle.strc_ring.specs.declared.begun.Begun.{Begun}
 use Rattle.strc_ring.specs.declared.shapes.Seat.{Seat}
 

@@ -3,8 +3,8 @@ use Rattle.std.specs.Prelude.{List, [], ◌∷◌, ◌++◌, map}
 use Rattle.strc_core.specs.Actors.{Stage, Collector, Work, Step, Collects}
 use Rattle.strc_core.specs.States.{Core, IsStart, IsState}
 use Rattle.strc_core.specs.States.{Start as CoreStart}
-use Rattle.strc_parcel.specs.declared.stop.Stop.{Stop}
-use Rattle.strc_parcel.specs.Parcels.{ParcelView, Load}
+use Rattle.strc_core.specs.declared.stop.Stop.{Stop}
+use Rattle.strc_core.specs.Parcels.{ParcelView, Load}
 use Rattle.strc_ring.specs.declared.shapes.Start.{Start}
 use Rattle.strc_ring.specs.declared.shapes.Parts.{Parts}
 use Rattle.strc_ring.specs.States.{IsRing}

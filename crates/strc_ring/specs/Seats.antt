@@ -1,12 +1,12 @@
 -- Workers on their seats, and after their work.
 use Rattle.std.specs.Prelude.{◌≡◌, ◌++◌, List, [], ◌∷◌, map}
 use Rattle.strc_core.specs.States.{Runs}
-use Rattle.strc_parcel.specs.Parcels.{ParcelView}
-use Rattle.strc_link.specs.declared.tx.Tx.{Tx}
-use Rattle.strc_link.specs.declared.rx.Rx.{Rx}
-use Rattle.strc_link.specs.Ends.{sent_by, got_by, IsLink}
-use Rattle.strc_worker.specs.declared.worked.Worked.{Worked}
-use Rattle.strc_worker.specs.Working.{put_back, stepped, Did}
+use Rattle.strc_core.specs.Parcels.{ParcelView}
+use Rattle.strc_ring.specs.declared.tx.Tx.{Tx}
+use Rattle.strc_ring.specs.declared.rx.Rx.{Rx}
+use Rattle.strc_ring.specs.Ends.{sent_by, got_by, IsLink}
+use Rattle.strc_ring.specs.declared.worked.Worked.{Worked}
+use Rattle.strc_ring.specs.Working.{put_back, stepped, Did}
 use Rattle.strc_ring.specs.declared.shapes.Start.{Start}
 use Rattle.strc_ring.specs.declared.shapes.Seat.{Seat}
 use Rattle.strc_ring.specs.declared.shapes.Ready.{Ready}

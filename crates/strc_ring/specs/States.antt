@@ -1,7 +1,7 @@
 -- What a ring of parts is.
 use Rattle.std.specs.Prelude.{◌≡◌, ◌++◌, List, [], ◌∷◌, option_to_list}
 use Rattle.strc_core.specs.States.{Runs}
-use Rattle.strc_parcel.specs.Parcels.{ParcelView}
+use Rattle.strc_core.specs.Parcels.{ParcelView}
 use Rattle.strc_ring.specs.declared.shapes.Start.{Start}
 use Rattle.strc_ring.specs.declared.shapes.Part.{Part}
 use Rattle.strc_ring.specs.declared.shapes.Parts.{Parts}

@@ -1,9 +1,9 @@
 // What a worker's thread promises.
 
 use crate::shapes::Seat;
+use crate::{Actor, Worked};
 use std::snapshot::Snapshot;
 use std::thread::{Promise, PromisedHandle};
-use strc_worker::{Actor, Worked};
 
 /// The work on the seat that the worker began with.
 #[derive(Drop)]

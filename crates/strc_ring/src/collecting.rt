@@ -1,11 +1,10 @@
 // The collector works in the thread that runs the ring.
 
-ghost use Rattle.strc_worker.specs.Working.{Did};
+ghost use Rattle.strc_ring.specs.Working.{Did};
 
+use crate::{Actor, OpenGate, Rx, Tx, Worked, work};
 use std::alloc::Global;
 use std::sync::Wait;
-use strc_link::{Rx, Tx};
-use strc_worker::{Actor, OpenGate, Worked, work};
 
 /// Its steps are no gate's.
 pub fn collect<C: Actor + Send, R: Wait>(

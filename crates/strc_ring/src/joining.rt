@@ -1,17 +1,17 @@
 // The workers of a ring are joined.
 
 ghost use Rattle.std.specs.Prelude.{◌≡◌, IfOk};
-ghost use Rattle.strc_worker.specs.Working.{Did};
+ghost use Rattle.strc_ring.specs.Working.{Did};
 ghost use Rattle.strc_ring.specs.Children.{begun_of};
 ghost use Rattle.strc_ring.specs.Seats.{IsReady, IsEnded};
 
 use crate::begun::Child;
 use crate::failure::Failure;
 use crate::shapes::{Ended, Ready, Start};
+use crate::{Actor, Worked};
 use std::snapshot::Snapshot;
 use std::thread;
 use std::thread::Threads;
-use strc_worker::{Actor, Worked};
 
 /// What all workers left, and the collector.
 pub fn join_all<S: Actor, C: Actor, R: Threads>(

@@ -2,7 +2,7 @@
 
 ghost use Rattle.strc_ring.specs.Cores.{RingsAreStates};
 
-use strc_worker::Actor;
+use crate::Actor;
 
 /// Where each step is seen as one of the core, a ring is seen as a state of the core.
 pub fn rings_are_states<S: Actor, C: Actor, State, Total>()

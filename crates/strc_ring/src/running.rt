@@ -12,12 +12,12 @@ use crate::settling::settle;
 use crate::shapes::{Ended, Parts, Ready, Start};
 use crate::stacks::{Deep, Stacks};
 use crate::starting::start_all;
+use crate::{Actor, Gate};
 use std::alloc::Global;
 use std::snapshot::Snapshot;
 use std::sync::Wait;
 use std::thread;
 use std::thread::{Scope, Threads};
-use strc_worker::{Actor, Gate};
 
 /// A worker for each stage, in a thread of its own, and the collector in this one, until all have
 /// ended. It waits. Each step of a stage is the gate's.

@@ -1,15 +1,15 @@
 // The links of a ring are made, and each actor gets its ends.
 
 ghost use Rattle.std.specs.Prelude.{◌≡◌, ◌<◌, ◌++◌, [], IfOk};
-ghost use Rattle.strc_link.specs.Ends.{sent_by, got_by, SameTx, IsLink};
+ghost use Rattle.strc_ring.specs.Ends.{sent_by, got_by, SameTx, IsLink};
 ghost use Rattle.strc_ring.specs.Seats.{IsReady, Linked, stages_of};
 
 use crate::shapes::{Ready, Seat, Start};
+use crate::{Rx, Tx, link};
 use std::alloc::Global;
 use std::sync::Wait;
 use strc_base::memory::NoMemory;
-use strc_link::{Rx, Tx, link};
-use strc_parcel::Parcel;
+use strc_core::Parcel;
 
 /// A link before each actor, with room for all the parcels, so that no giver has to wait. The free
 /// ones are laid on the link before the first stage.

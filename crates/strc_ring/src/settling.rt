@@ -1,18 +1,17 @@
 // The parts of a ring, after its workers have ended.
 
 ghost use Rattle.std.specs.Prelude.{◌≡◌, ◌++◌, [], cond, option_to_list, IfOk};
-ghost use Rattle.strc_link.specs.Ends.{sent_by, IsLink};
+ghost use Rattle.strc_ring.specs.Ends.{sent_by, IsLink};
 ghost use Rattle.strc_ring.specs.States.{Chain, IsRing};
 ghost use Rattle.strc_ring.specs.Seats.{AreDone, IsEnded};
 
 use crate::shapes::{Ended, Part, Parts, Start};
+use crate::{Actor, Rx, Tx, Worked, close};
 use std::alloc::Global;
 use std::snapshot::Snapshot;
 use std::sync::Wait;
 use strc_base::memory::NoMemory;
-use strc_link::{Rx, Tx, close};
-use strc_parcel::Parcel;
-use strc_worker::{Actor, Worked};
+use strc_core::Parcel;
 
 /// Closes each link. A misfit is laid back in front of the link that it came from.
 pub fn settle<S: Actor, C: Actor, R: Wait>(

@@ -1,8 +1,7 @@
 // What a ring begins with, and what is left of it.
 
-use strc_link::{Rx, Tx};
-use strc_parcel::Parcel;
-use strc_worker::Worked;
+use crate::{Rx, Tx, Worked};
+use strc_core::Parcel;
 
 /// The stages in order, the free parcels, and the collector.
 #[derive(Drop)]

@@ -8,12 +8,12 @@ use crate::begun::{Begun, Child};
 use crate::failure::Failure;
 use crate::shapes::Seat;
 use crate::stacks::Stacks;
+use crate::{Actor, Gate, Worked, work};
 use core::thread::Stack;
 use std::alloc::Global;
 use std::snapshot::Snapshot;
 use std::sync::Wait;
 use std::thread::{Scope, Threads};
-use strc_worker::{Actor, Gate, Worked, work};
 
 /// A thread for each seat, in order. Where one is refused, those that run are handed back, and the
 /// ends of the other seats are dropped.

@@ -5,3 +5,8 @@ pub mod Moves
 pub mod Scattering
 pub mod Gathering
 pub mod Turns
+pub mod Wirings
+pub mod CircuitPorts
+pub mod PartLists
+pub mod PartCircuits
+pub mod UnitLists

@@ -19,7 +19,7 @@ use Rattle.strc_admissible.proofs.Changes.{items_after, same_moves, no_moves}
 use Rattle.strc_admissible.proofs.Changes.{both_move, one_gives, one_takes, still_placed}
 use Rattle.strc_admissible.proofs.Dealing.{dealing_moves, piece, rate_elsewhere}
 use Rattle.strc_rings.specs.Answers.{AreRings}
-use Rattle.strc_circuit.specs.Apart.{AreApart}
+use Rattle.strc_rings.specs.Apart.{AreApart}
 use Rattle.strc_rings.specs.Turns.{firsts, spread_out, times}
 use Rattle.strc_rings.proofs.Moves.{extended_twice}
 use Rattle.strc_rings.proofs.Ports.{length-given, drop_at}

@@ -4,7 +4,7 @@ use Rattle.std.specs.Prelude.{Result, Ok, Err}
 use Rattle.strc_semantics.specs.declared.fault.Halt.{Halt}
 use Rattle.strc_semantics.specs.declared.fault.Halt.TheVariants as halt
 use Rattle.strc_semantics.specs.declared.word.Word.{Word}
-use Rattle.strc_inst.specs.Running.{MoreWords}
+use Rattle.strc_instructions.specs.Running.{MoreWords}
 use Rattle.strc_admissible.specs.Rings.{Ring, at_port}
 use Rattle.strc_admissible.specs.Steps.{Step, Stays, Goes, Faults}
 

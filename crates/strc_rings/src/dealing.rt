@@ -4,7 +4,7 @@ ghost use Rattle.std.specs.Prelude.{◌≡◌, ◌≤◌, ◌<◌, ◌*◌, IfSo
 ghost use Rattle.strc_admissible.specs.Rings as spec;
 ghost use Rattle.strc_admissible.specs.Rings.{at_port, dealt_out, gathered_in, items_at};
 ghost use Rattle.strc_rings.specs.Answers.{AreRings};
-ghost use Rattle.strc_circuit.specs.Apart.{AreApart};
+ghost use Rattle.strc_rings.specs.Apart.{AreApart};
 ghost use Rattle.strc_rings.specs.Turns.{FindsCycles, HasTurned};
 ghost use Rattle.strc_rings.specs.Turns.{firsts, spread_out, times};
 

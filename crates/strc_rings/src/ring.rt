@@ -9,7 +9,7 @@ use crate::pouring::{extend, move_across, rotate, shorten};
 use circular_buffer::HeapCircularBuffer;
 use std::alloc::{AllocError, Global};
 use strc_graph::graph::Channel;
-use strc_inst::window::Window;
+use strc_instructions::window::Window;
 
 /// The items on a channel.
 pub type Ring = HeapCircularBuffer<i32>;

@@ -15,8 +15,8 @@ use Rattle.strc_balance.specs.declared.error.BalanceError.{BalanceError}
 use Rattle.strc_balance.specs.declared.error.BalanceError.TheVariants as unbalanced
 use Rattle.strc_startup.specs.Rates.{first_count, first_counts, rates_of, rates_of_channel}
 use Rattle.strc_startup.specs.Startup.{IsLeast}
-use Rattle.strc_order.specs.Schedules.{ScheduleParts, IsSchedule}
-use Rattle.strc_scope.specs.declared.error.ElabError.{ElabError}
+use Rattle.strc_schedule.specs.Schedules.{ScheduleParts, IsSchedule}
+use Rattle.strc_statements.specs.declared.error.ElabError.{ElabError}
 use Rattle.strc_fiss.specs.Fissions.{IsTransformed}
 use Rattle.strc_fiss.specs.Ways.{fission_of}
 use Rattle.strc_split.specs.Refusals.{PassesNoLimit, TransformedOrRefused}

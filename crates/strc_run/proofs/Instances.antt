@@ -7,7 +7,7 @@ use Rattle.strc_semantics.specs.Firing.{started}
 use Rattle.strc_semantics.specs.declared.fault.Cause.{Cause}
 use Rattle.strc_check.specs.Resolution.{filter_resolved}
 use Rattle.strc_check.specs.declared.error.LowerError.{LowerError}
-use Rattle.strc_scope.specs.Statements.{ruled}
+use Rattle.strc_statements.specs.Statements.{ruled}
 use Rattle.strc_elab.specs.Elaboration.{started_as}
 use Rattle.strc_elab.specs.Sound.{IsInstance}
 use Rattle.strc_graph.specs.Graphs as graphs

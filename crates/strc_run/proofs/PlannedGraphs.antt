@@ -12,8 +12,8 @@ use Rattle.strc_elab.specs.Sound.{IsInstance}
 use Rattle.strc_balance.specs.Balance.{count_at}
 use Rattle.strc_balance.specs.Rates.{IsRated, equations_of, fires_by_rounds}
 use Rattle.strc_startup.specs.Rates.{rates_of}
-use Rattle.strc_order.specs.Schedules.{ScheduleParts}
-use Rattle.strc_order.proofs.Runnable.{schedules_are_runnable}
+use Rattle.strc_schedule.specs.Schedules.{ScheduleParts}
+use Rattle.strc_schedule.proofs.Runnable.{schedules_are_runnable}
 use Rattle.strc_admissible.specs.Planned.{IsFilterOf, IsPlanned}
 use Rattle.strc_fiss.specs.Splits.{SplitParts}
 use Rattle.strc_stage.specs.Plans.{HasRound, HasSchedule, HasStartup, IsPlan, IsTransformation}

@@ -5,7 +5,7 @@ use Rattle.std.specs.Prelude.{Bool, true, false}
 use Rattle.std.specs.Result.{IsErrAnd}
 use Rattle.strc_syntax.specs.Tree.{Declaration}
 use Rattle.strc_parse.specs.Texts.{Spells}
-use Rattle.strc_scope.specs.Answers as elaboration
+use Rattle.strc_statements.specs.Answers as elaboration
 use Rattle.strc_elab.specs.Elaboration.{elaborated}
 use Rattle.strc_stream.specs.Flattening.{nodes_of, codes_of, meaning_of, outer_loops, IsFlat}
 use Rattle.strc_stream.specs.Connections.{IsConnected}
@@ -20,13 +20,13 @@ use Rattle.strc_balance.specs.Rates.{equations_of, size_of}
 use Rattle.strc_balance.specs.Verdicts as balancing
 use Rattle.strc_balance.specs.declared.error.BalanceError.{BalanceError}
 use Rattle.strc_balance.specs.declared.error.BalanceError.TheVariants as unbalanced
-use Rattle.strc_order.specs.declared.error.ScheduleError.{ScheduleError}
-use Rattle.strc_order.specs.declared.error.ScheduleError.TheVariants as unscheduled
+use Rattle.strc_schedule.specs.declared.error.ScheduleError.{ScheduleError}
+use Rattle.strc_schedule.specs.declared.error.ScheduleError.TheVariants as unscheduled
 use Rattle.strc_startup.specs.declared.error.StartupError.{StartupError}
 use Rattle.strc_startup.specs.declared.error.StartupError.TheVariants as unprimed
-use Rattle.strc_scope.specs.declared.error.ElabError.{ElabError}
-use Rattle.strc_scope.specs.declared.error.ElabError.TheVariants as error
-use Rattle.strc_order.specs.Schedules.{ScheduleParts}
+use Rattle.strc_statements.specs.declared.error.ElabError.{ElabError}
+use Rattle.strc_statements.specs.declared.error.ElabErrorKind.TheVariants as error
+use Rattle.strc_schedule.specs.Schedules.{ScheduleParts}
 use Rattle.strc_stage.specs.Plans.{HasSchedule, HasStartup, IsDeadlocked, IsUnbounded, Overflows}
 use Rattle.strc_stage.specs.Plans.{PlanParts}
 use Rattle.strc_refusal.specs.declared.refusal.Refusal.{Refusal}
@@ -214,6 +214,11 @@ pub refusal_reported : (text : List ℕ) (choice : Choice) (result : Result Plan
 refusal_reported text choice (Ok plan) refused reported is = absurd reported
 refusal_reported text choice (Err found) refused reported is =
     subst (IsTrueOf text choice) (sym reported) is
+
+-- a refusal that is told with its place
+pub refusal_told : (text : List ℕ) (choice : Choice) (found refused : Refusal) → found ≡ refused
+    → IsTrueOf text choice refused → HasPlan text choice (Err found)
+refusal_told text choice found refused same is = subst (IsTrueOf text choice) (sym same) is
 
 -- the plan that is given
 pub plan_reported : (text : List ℕ) (choice : Choice) (plan parts : PlanParts) → plan ≡ parts

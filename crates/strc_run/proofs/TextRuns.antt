@@ -3,11 +3,11 @@ use Rattle.std.proofs.Common.{◌≡◌, ◌∙◌, ap, sym, subst, ℕ, ◌<◌
 use Rattle.std.proofs.Common.{Ok, Err, true}
 use Rattle.std.specs.Prelude.{unwrap_or}
 use Rattle.strc_stream.specs.Flattening.{tree_of, nodes_of}
-use Rattle.strc_outcome.specs.declared.outcome.Outcome.{Outcome}
-use Rattle.strc_outcome.specs.declared.refusal.RunRefusal.{RunRefusal}
-use Rattle.strc_outcome.specs.declared.refusal.RunRefusal.TheVariants as refused
+use Rattle.strc_refusal.specs.declared.outcome.Outcome.{Outcome}
+use Rattle.strc_refusal.specs.declared.run_refusal.RunRefusal.{RunRefusal}
+use Rattle.strc_refusal.specs.declared.run_refusal.RunRefusal.TheVariants as refused
 use Rattle.strc_stage.specs.Plans.{PlanParts, graph_of}
-use Rattle.strc_split_rings.specs.Plans.{need_of}
+use Rattle.strc_staged.specs.Plans.{need_of}
 use Rattle.strc_run.specs.Choices.{Choice}
 use Rattle.strc_run.specs.Laws.{PlansAnswerTexts}
 use Rattle.strc_run.specs.Plans.{IsPlanOf}

@@ -5,8 +5,8 @@ use Rattle.std.specs.Prelude.{◌≡◌, ℕ, ◌⊎◌, List, Ok, Err}
 use Rattle.strc_syntax.specs.Tree.{Declaration}
 use Rattle.strc_grammar.specs.declared.error.ParseError.TheVariants as parsing
 use Rattle.strc_parse.specs.Texts.{HasNoToken, IsNoProgram, IsTooLong, Spells}
-use Rattle.strc_scope.specs.declared.error.ElabError.{ElabError}
-use Rattle.strc_scope.specs.declared.error.ElabError.TheVariants as error
+use Rattle.strc_statements.specs.declared.error.ElabError.{ElabError}
+use Rattle.strc_statements.specs.declared.error.ElabErrorKind.TheVariants as error
 use Rattle.strc_elab.specs.Elaboration.{elaborated}
 use Rattle.strc_stream.specs.Connections.{IsConnected}
 use Rattle.strc_stream.specs.Flattening.{nodes_of, codes_of, meaning_of, outer_loops, IsFlat}
@@ -16,7 +16,7 @@ use Rattle.strc_graph.specs.Graphs.{Graph}
 use Rattle.strc_balance.specs.Balance.{Balances}
 use Rattle.strc_balance.specs.Rates.{equations_of, size_of}
 use Rattle.strc_balance.specs.declared.error.BalanceError.TheVariants as unbalanced
-use Rattle.strc_order.specs.Schedules.{ScheduleParts}
+use Rattle.strc_schedule.specs.Schedules.{ScheduleParts}
 use Rattle.strc_stage.specs.Plans.{HasSchedule, HasStartup, HasTooManyParts, IsDeadlocked}
 use Rattle.strc_stage.specs.Plans.{IsUnbounded, Overflows, OverflowsFused, OverflowsSplit}
 use Rattle.strc_refusal.specs.declared.refusal.Refusal.{Refusal}

@@ -6,11 +6,11 @@ use Rattle.std.specs.List.{list_any}
 use Rattle.strc_graph.specs.Graphs.{NodeCode, reads_input}
 use Rattle.strc_parallel.specs.Answers.{AnswersPlan}
 use Rattle.strc_sched.specs.Serving.{Serves}
-use Rattle.strc_outcome.specs.declared.outcome.Outcome.{Outcome}
-use Rattle.strc_outcome.specs.declared.refusal.RunRefusal.{RunRefusal}
-use Rattle.strc_outcome.specs.declared.refusal.RunRefusal.TheVariants as refused
+use Rattle.strc_refusal.specs.declared.outcome.Outcome.{Outcome}
+use Rattle.strc_refusal.specs.declared.run_refusal.RunRefusal.{RunRefusal}
+use Rattle.strc_refusal.specs.declared.run_refusal.RunRefusal.TheVariants as refused
 use Rattle.strc_stage.specs.Plans.{PlanParts, graph_of}
-use Rattle.strc_split_rings.specs.Plans.{need_of}
+use Rattle.strc_staged.specs.Plans.{need_of}
 use Rattle.strc_run.specs.declared.run.TheConstants.{WORKER_LIMIT}
 
 -- rounds can be run by so many workers

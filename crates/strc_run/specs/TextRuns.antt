@@ -6,11 +6,11 @@ use Rattle.strc_graph.specs.Graphs.{reads_input}
 use Rattle.strc_stream.specs.Flattening.{tree_of, nodes_of}
 use Rattle.strc_stream.specs.Instances.{Stream}
 use Rattle.strc_parallel.specs.Answers.{IsOutcomeOf}
-use Rattle.strc_outcome.specs.declared.outcome.Outcome.{Outcome}
-use Rattle.strc_outcome.specs.declared.refusal.RunRefusal.{RunRefusal}
-use Rattle.strc_outcome.specs.declared.refusal.RunRefusal.TheVariants as refused
+use Rattle.strc_refusal.specs.declared.outcome.Outcome.{Outcome}
+use Rattle.strc_refusal.specs.declared.run_refusal.RunRefusal.{RunRefusal}
+use Rattle.strc_refusal.specs.declared.run_refusal.RunRefusal.TheVariants as refused
 use Rattle.strc_stage.specs.Plans.{PlanParts}
-use Rattle.strc_split_rings.specs.Plans.{need_of}
+use Rattle.strc_staged.specs.Plans.{need_of}
 use Rattle.strc_run.specs.Accepts.{Accepts}
 use Rattle.strc_run.specs.Choices.{Choice}
 use Rattle.strc_run.specs.Rounds.{AreWorkers, IsCount, is_bounded}

@@ -16,25 +16,42 @@ use crate::refusal::Refusal;
 use crate::transforming::transformed;
 use std::alloc::Global;
 use strc_balance::balance::balance;
+use strc_base::place::Span;
 use strc_elab::elaborate::elaborate;
 use strc_flatten::flatten::flatten;
 use strc_fuse::laws::schedules_can_be_fused;
 use strc_lex::error::LexError;
 use strc_lex::lexer::lex;
-use strc_order::planning::schedule;
+use strc_lex::token::Token;
 use strc_parse::{ParseError, parse};
+use strc_refusal::refused::Refused;
+use strc_schedule::planning::schedule;
 pub use strc_stage::plan::Plan;
 use strc_startup::startup::startup;
 use strc_stream::laws::nodes_deal;
 use strc_stream::stream::Stream;
 use strc_syntax::tree::Program;
 
-/// The plan of the program's main stream.
+/// The plan of the program's main stream, or the refusal of the first rule that is broken, as
+/// `compile_or_where` has it.
+pub fn compile(alloc: Global, text: &[u8], options: &Options) -> Result<Plan, Refusal>
+    ensures plan { HasPlan text.now (choice_of options.now) result }
+    // No positive counts balance a graph that is answered to be inconsistent.
+    ensures inconsistent { (channel : ℕ) → result ≡ Err (refused.Inconsistent channel)
+        → HasNoBalance text.now (choice_of options.now) }
+{
+    match compile_or_where(alloc, text, options) {
+        Ok(plan) => Ok(plan),
+        Err(refused) => Err(refused.into_refusal()),
+    }
+}
+
+/// The plan of the program's main stream, or the refusal with where its rule is broken.
 ///
 /// The first rule that is broken refuses the text: those of its tokens, its tree, its elaboration,
 /// its flat graph, its rates, its balance, its start-up, its schedule, and the nodes and the sizes
 /// after fission and fusion. `NoMemory` can come in place of any answer.
-pub fn compile(alloc: Global, text: &[u8], options: &Options) -> Result<Plan, Refusal>
+pub fn compile_or_where(alloc: Global, text: &[u8], options: &Options) -> Result<Plan, Refused>
     ensures plan { HasPlan text.now (choice_of options.now) result }
     // No positive counts balance a graph that is answered to be inconsistent.
     ensures inconsistent { (channel : ℕ) → result ≡ Err (refused.Inconsistent channel)
@@ -48,7 +65,7 @@ pub fn compile(alloc: Global, text: &[u8], options: &Options) -> Result<Plan, Re
             options.ways,
             options.fuse,
         ),
-        Err(refusal) => Err(refusal),
+        Err(refused) => Err(refused),
     }
 }
 
@@ -60,7 +77,7 @@ pub fn stream_of(alloc: Global, text: &[u8], options: &Options) -> Result<Stream
 {
     let program = match read_program(alloc, text) {
         Ok(program) => program,
-        Err(refusal) => return Err(refusal),
+        Err(refused) => return Err(refused.into_refusal()),
     };
     match elaborate(alloc, &program, options.main_name()) {
         Ok(stream) => Ok(stream),
@@ -75,7 +92,7 @@ fn compile_program(
     main: Option<&str>,
     ways: u32,
     fuse: u32,
-) -> Result<Plan, Refusal>
+) -> Result<Plan, Refused>
     ensures { (text : List ℕ) → Spells text (program_view program.now)
         → HasPlan text (record
         { main = option_map (λ n. n.now) main.entry; ways = ways; fuse = fuse }) result }
@@ -85,31 +102,73 @@ fn compile_program(
     // A greedy schedule can be fused.
     schedules_can_be_fused();
     let stream = elaborate(alloc, program, main)?;
-    let graph = flatten(alloc, &stream)?;
-    check_rates(alloc, graph.nodes())?;
-    let round_counts = balance(alloc, &graph)?;
-    let startup_counts = startup(alloc, &graph, &round_counts)?;
-    let schedule = schedule(alloc, &graph, &startup_counts, &round_counts)?;
-    let split = transformed(alloc, &graph, &round_counts, &schedule, ways, fuse)?;
+    let graph = match flatten(alloc, &stream) {
+        Ok(graph) => graph,
+        Err(error) => return Err(Refused::from(error).of_stream(stream)),
+    };
+    if let Err(refusal) = check_rates(alloc, graph.nodes()) {
+        return Err(Refused::of_graph(refusal, stream, graph));
+    }
+    let round_counts = match balance(alloc, &graph) {
+        Ok(counts) => counts,
+        Err(error) => return Err(Refused::of_graph(Refusal::from(error), stream, graph)),
+    };
+    let startup_counts = match startup(alloc, &graph, &round_counts) {
+        Ok(counts) => counts,
+        Err(error) => return Err(Refused::of_graph(Refusal::from(error), stream, graph)),
+    };
+    let schedule = match schedule(alloc, &graph, &startup_counts, &round_counts) {
+        Ok(schedule) => schedule,
+        Err(error) => return Err(Refused::of_graph(Refusal::from(error), stream, graph)),
+    };
+    let split = match transformed(alloc, &graph, &round_counts, &schedule, ways, fuse) {
+        Ok(split) => split,
+        Err(refusal) => return Err(Refused::of_graph(refusal, stream, graph)),
+    };
     let plan = Plan::new(alloc, graph, startup_counts, round_counts, schedule, split)?;
     Ok(plan)
 }
 
 // The program that the text spells.
-fn read_program(alloc: Global, text: &[u8]) -> Result<Program, Refusal>
+fn read_program(alloc: Global, text: &[u8]) -> Result<Program, Refused>
     ensures read { IfOk result (λ program. Spells text.now (program_view program)) }
     ensures refused { IfErr result (λ e. IsReadRefusal text.now e) }
 {
     let tokens = match lex(alloc, text) {
         Ok(tokens) => tokens,
-        Err(LexError::Lex { at }) => return Err(Refusal::Lex { at }),
-        Err(LexError::TextTooLong) => return Err(Refusal::TextTooLong),
-        Err(LexError::NoMemory) => return Err(Refusal::NoMemory),
+        Err(LexError::Lex { at }) => {
+            return Err(Refused::at_place(Refusal::Lex { at }, byte_at(at)));
+        }
+        Err(LexError::TextTooLong) => return Err(Refused::from(Refusal::TextTooLong)),
+        Err(LexError::NoMemory) => return Err(Refused::from(Refusal::NoMemory)),
     };
     match parse(alloc, &tokens) {
         Ok(program) => Ok(program),
-        Err(ParseError::Parse { token }) => Err(Refusal::Parse { token }),
-        Err(ParseError::Nesting) => Err(Refusal::Nesting),
-        Err(ParseError::NoMemory) => Err(Refusal::NoMemory),
+        Err(ParseError::Parse { token }) => {
+            let place = token_at(&tokens, token);
+            Err(Refused::at_place(Refusal::Parse { token }, place))
+        }
+        Err(ParseError::Nesting) => Err(Refused::from(Refusal::Nesting)),
+        Err(ParseError::NoMemory) => Err(Refused::from(Refusal::NoMemory)),
+    }
+}
+
+// The place of a byte.
+fn byte_at(at: usize) -> Span {
+    Span {
+        start: at,
+        end: at.saturating_add(1),
+    }
+}
+
+// The place of a token; the byte after the last one where the tokens end before it.
+fn token_at(tokens: &[Token], token: usize) -> Span {
+    match (tokens.get(token), tokens.last()) {
+        (Some(found), _) => Span {
+            start: found.span.start,
+            end: found.span.end,
+        },
+        (None, Some(last)) => byte_at(last.span.end),
+        (None, None) => byte_at(0),
     }
 }

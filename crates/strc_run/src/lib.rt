@@ -4,9 +4,9 @@
 // The theorem to rely on: `compile` refuses exactly where a layer does, and the outcome of a plan's
 // rounds is the answer of its stream's equations (`laws::plans_answer_texts`).
 // Stands on strc_lex, strc_parse, strc_elab, strc_flatten, strc_rate, strc_balance, strc_startup,
-// strc_order, strc_fiss and strc_fuse, whose rules a text keeps, on strc_refusal, whose refusals it
-// gives and passes on, on strc_stage, whose plans it gives, and on strc_sched and strc_parallel,
-// which run schedules and stages, with outcomes of strc_outcome.
+// strc_schedule, strc_fiss and strc_fuse, whose rules a text keeps, on strc_refusal, whose refusals
+// it gives and passes on, on strc_stage, whose plans it gives, and on strc_sched and strc_parallel,
+// which run schedules and stages, with outcomes of strc_refusal.
 #![tactic(auto)]
 
 pub mod compile;

@@ -2,22 +2,22 @@
 
 ghost use Rattle.std.specs.Prelude.{◌≡◌, ◌≤◌, None, IfErr, IfOk, length};
 ghost use Rattle.strc_parallel.specs.Answers.{AnswersPlan};
-ghost use Rattle.strc_split_rings.specs.Plans.{need_of};
+ghost use Rattle.strc_staged.specs.Plans.{need_of};
 ghost use Rattle.strc_run.specs.Rounds.{AreWorkers, IsRunOf, IsWorkedRefusal, plan_reads};
 
 use std::alloc::Global;
 use std::sync::Wait;
 use std::thread::Threads;
-pub use strc_outcome::outcome::{Outcome, Round};
-pub use strc_outcome::refusal::RunRefusal;
 use strc_parallel::alone::run_alone;
 use strc_parallel::running::run_stages;
+pub use strc_refusal::outcome::{Outcome, Round};
+pub use strc_refusal::run_refusal::RunRefusal;
+use strc_ring::Gate;
 use strc_sched::plain::input_needed;
 use strc_sched::serving;
 use strc_sched::serving::rounds_served;
 use strc_stage::plan::Plan;
 use strc_stages::Stage;
-use strc_worker::Gate;
 
 /// The most workers that rounds are run by.
 pub const WORKER_LIMIT: u32 = 64;

@@ -16,7 +16,7 @@ use strc_fiss::fission::fission;
 use strc_fiss::split::Split;
 use strc_fuse::error::FuseError;
 use strc_graph::graph::Graph;
-use strc_order::parts::Schedule;
+use strc_schedule::parts::Schedule;
 
 /// A graph and its schedule, with filters split among at most so many copies, and then the units of
 /// the round fused into lists of at most so many entries.

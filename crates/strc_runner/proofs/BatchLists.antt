@@ -6,10 +6,10 @@ use Rattle.std.proofs.Common.{Result, Ok, Err, ltb-false, lt-ltb, le-ltb}
 use Rattle.std.specs.Prelude.{None}
 use Rattle.std.proofs.lemmas.List.{take_more}
 use Rattle.std.proofs.lemmas.List.Elements.{filter-append}
-use Rattle.strc_order.specs.declared.unit as units
-use Rattle.strc_order.specs.Greedy.{firings_of}
-use Rattle.strc_order.specs.Order.{repeated}
-use Rattle.strc_order.proofs.Passing.{repeated_more, units_more}
+use Rattle.strc_schedule.specs.declared.unit as units
+use Rattle.strc_schedule.specs.Greedy.{firings_of}
+use Rattle.strc_schedule.specs.Order.{repeated}
+use Rattle.strc_schedule.proofs.Passing.{repeated_more, units_more}
 use Rattle.strc_admissible.specs.Machine.{CircuitView, MachineView, Progress, Went, Stopped}
 use Rattle.strc_admissible.specs.Machine.{then_go, order_run, after_step, next_step}
 use Rattle.strc_runner.specs.Batches.{IsOrderOf, all_firings, batch_firings, in_circuit}

@@ -12,7 +12,7 @@ use Rattle.std.proofs.Common.{subst}
 use Rattle.strc_semantics.specs.declared.word.Word.{Word}
 use Rattle.strc_graph.specs.Graphs as graphs
 use Rattle.strc_graph.specs.Graphs.{NodeCode}
-use Rattle.strc_order.specs.Order.{repeated}
+use Rattle.strc_schedule.specs.Order.{repeated}
 use Rattle.strc_admissible.specs.Machine.{CircuitView, MachineView, Went, after_step}
 use Rattle.strc_admissible.specs.Machine.{next_step, order_run, then_go, one_more, more_words}
 use Rattle.strc_admissible.specs.Rings.{Ring, ring_at, at_port, items_at, shortened, extended}
@@ -153,10 +153,10 @@ holds_items (ring ∷ rings) (suc number) some =
     let less = holds_items rings number some in omega arith
 
 -- so many more firings, numbered within 64 bits
-abbrev counted : (count firing : ℕ) → ℕ
+abbrev pub counted : (count firing : ℕ) → ℕ
 counted count firing = min (firing + count) (2 ^ 64 - 1)
 
-counted_more : (count firing : ℕ) → firing < 2 ^ 64
+pub counted_more : (count firing : ℕ) → firing < 2 ^ 64
     → counted count (one_more firing) ≡ counted (suc count) firing
 counted_more count firing fits = by_test (ltb firing (2 ^ 64 - 1)) refl
   where
@@ -166,7 +166,7 @@ counted_more count firing fits = by_test (ltb firing (2 ^ 64 - 1)) refl
     by_test true is = omega arith
     by_test false is = let most = ltb-false firing (2 ^ 64 - 1) is in omega arith
 
-one_more_fits : (firing : ℕ) → firing < 2 ^ 64 → one_more firing < 2 ^ 64
+pub one_more_fits : (firing : ℕ) → firing < 2 ^ 64 → one_more firing < 2 ^ 64
 one_more_fits firing fits = by_test (ltb firing (2 ^ 64 - 1)) refl
   where
     by_test : (test : Bool) → ltb firing (2 ^ 64 - 1) ≡ test

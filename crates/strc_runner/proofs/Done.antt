@@ -18,7 +18,7 @@ use Rattle.strc_semantics.specs.Scoping.{total}
 use Rattle.strc_semantics.specs.declared.fault.Halt.{Halt}
 use Rattle.strc_semantics.specs.declared.fault.Halt.TheVariants as halt
 use Rattle.strc_semantics.specs.declared.word.Word.{Word}
-use Rattle.strc_inst.specs.Running.{MoreWords}
+use Rattle.strc_instructions.specs.Running.{MoreWords}
 use Rattle.strc_graph.specs.Graphs as graphs
 use Rattle.strc_graph.specs.Graphs.{NodeCode}
 use Rattle.strc_graph.specs.NodeView.{node_view}

@@ -4,7 +4,7 @@ use Rattle.std.proofs.Common.{◌∷◌, ◌++◌, length, drop, get_or, arith, 
 use Rattle.std.proofs.Common.{subst, Ok, Err}
 use Rattle.strc_semantics.specs.declared.fault.Cause.{Cause}
 use Rattle.strc_semantics.specs.declared.word.Word.{Word}
-use Rattle.strc_order.specs.Order.{repeated}
+use Rattle.strc_schedule.specs.Order.{repeated}
 use Rattle.strc_admissible.specs.Machine.{CircuitView, MachineView, Progress, Went, Stopped}
 use Rattle.strc_admissible.specs.Machine.{then_go, order_run, after_step, next_step, step_at}
 use Rattle.strc_admissible.specs.Machine.{words_at}
@@ -82,6 +82,17 @@ pub turns_left : (turns turn : ℕ) (nodes : List ℕ) → turn < turns
 turns_left turns turn nodes less =
     let e : turns - turn ≡ suc (turns - (turn + 1)) = omega arith in
     ap (λ n. repeated n nodes) e
+
+-- turns in two parts
+pub repeated_parts : (first second : ℕ) (nodes : List ℕ)
+    → repeated (first + second) nodes ≡ repeated first nodes ++ repeated second nodes
+repeated_parts zero second nodes =
+    ap (λ n. repeated n nodes) (let e : 0 + second ≡ second = omega arith in e)
+repeated_parts (suc first) second nodes =
+    ap (λ n. repeated n nodes)
+    (let e : suc first + second ≡ suc (first + second) = omega arith in e)
+    ∙ ap (λ l. nodes ++ l) (repeated_parts first second nodes)
+    ∙ sym (append_assoc nodes (repeated first nodes) (repeated second nodes))
 
 -- nothing is left at the end
 pub none_left : {X : Type 0} (xs : List X) (place : ℕ) → length xs ≤ place → drop place xs ≡ []

@@ -13,7 +13,7 @@ use Rattle.strc_semantics.specs.declared.body.Body.{Body}
 use Rattle.strc_semantics.specs.declared.fault.Halt.{Halt}
 use Rattle.strc_semantics.specs.declared.fault.Halt.TheVariants as halt
 use Rattle.strc_semantics.specs.declared.word.Word.{Word}
-use Rattle.strc_inst.specs.Running.{MoreWords}
+use Rattle.strc_instructions.specs.Running.{MoreWords}
 use Rattle.strc_work.specs.Answers.{Fires, HasGiven}
 use Rattle.strc_graph.specs.Rates.{body_at, filter_pops}
 use Rattle.strc_admissible.specs.Rings.{Ring, extended, given, items_at, moved, ring_at, shortened}
@@ -115,7 +115,8 @@ module _ (filter : filters.Filter) (firing : ℕ) (fields : List ℤ) (input out
       (omega (arith, e, less)))
 
   module _ (looks : ℕ) (fires : Body) (window : List ℤ)
-      (looks_is : looks ≡ filter_looks filter firing) (found : looks ≤ held.count) (fires_is : fires ≡ body_at firing)
+      (looks_is : looks ≡ filter_looks filter firing) (found : looks ≤ held.count)
+      (fires_is : fires ≡ body_at firing)
       (window_is : window ≡ take held.count items) where
     fires_so : filter_step filter firing fields input output (with_held held items rings)
         ≡ filter_after (filter_pops filter firing) input output (with_held held items rings)

@@ -14,3 +14,5 @@ pub mod TurnFirings
 pub mod PartLists
 pub mod PartMachines
 pub mod KeptNodes
+pub mod LaneRings
+pub mod LaneTurns

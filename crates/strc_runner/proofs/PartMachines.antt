@@ -12,8 +12,8 @@ use Rattle.strc_graph.specs.declared.graph.Channel as declared
 use Rattle.strc_admissible.specs.Machine.{CircuitView}
 use Rattle.strc_admissible.specs.Rings.{Ring, ring_at}
 use Rattle.strc_runner.specs.Actors.{AreActors, IsActorOf, fields_of}
-use Rattle.strc_circuit.specs.Parts.{IsOutside, IsPartCircuit, is_within}
-use Rattle.strc_circuit.proofs.PartLists.{within_false, within_true}
+use Rattle.strc_rings.specs.Parts.{IsOutside, IsPartCircuit, is_within}
+use Rattle.strc_rings.proofs.PartLists.{within_false, within_true}
 use Rattle.strc_runner.specs.Parts.{HasChosen, HoldsFrom, IsPart, IsRest, chosen, empty_rings}
 use Rattle.strc_runner.specs.Parts.{ends_within, room_at}
 use Rattle.strc_runner.specs.Running.{IsMachine, machine_view, words_of}

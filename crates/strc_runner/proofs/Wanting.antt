@@ -11,7 +11,7 @@ use Rattle.strc_semantics.specs.declared.fault.Cause.{Cause}
 use Rattle.strc_semantics.specs.declared.fault.Halt.{Halt}
 use Rattle.strc_semantics.specs.declared.fault.Halt.TheVariants as halt
 use Rattle.strc_semantics.specs.declared.word.Word.{Word}
-use Rattle.strc_inst.specs.Running.{WantsOnlyWords}
+use Rattle.strc_instructions.specs.Running.{WantsOnlyWords}
 use Rattle.strc_work.specs.Answers.{WantsGivenWords}
 use Rattle.strc_graph.specs.Rates.{body_at}
 use Rattle.strc_admissible.specs.Rings.{Ring, items_at}

@@ -2,13 +2,13 @@
 use Rattle.std.specs.Prelude.{◌≡◌, ◌≢◌, ℕ, ◌<◌, nat_lt, List, [], ◌∷◌, ◌++◌, All, filter, length}
 use Rattle.std.specs.Prelude.{Option, Some, slice_get}
 use Rattle.strc_graph.specs.Graphs.{NodeCode}
-use Rattle.strc_order.specs.declared.unit as units
-use Rattle.strc_order.specs.Greedy.{firings_of}
-use Rattle.strc_order.specs.Order.{repeated}
+use Rattle.strc_schedule.specs.declared.unit as units
+use Rattle.strc_schedule.specs.Greedy.{firings_of}
+use Rattle.strc_schedule.specs.Order.{repeated}
 use Rattle.strc_admissible.specs.Machine.{CircuitView}
 use Rattle.strc_admissible.specs.Rings.{at_port}
 use Rattle.strc_admissible.specs.Wiring.{ports_at}
-use Rattle.strc_circuit.specs.Apart.{AreApart}
+use Rattle.strc_rings.specs.Apart.{AreApart}
 use Rattle.strc_runner.specs.Identities.{PassesItems}
 use Rattle.strc_runner.specs.declared.batches.Kind.{Kind}
 use Rattle.strc_runner.specs.declared.batches.Kind.TheVariants as kind

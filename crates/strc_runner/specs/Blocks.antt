@@ -4,7 +4,7 @@ use Rattle.std.specs.Prelude.{length, min, Bool, true, false, Some}
 use Rattle.std.specs.Prelude.{slice_get, slice_set, slice_index, slice_index_or}
 use Rattle.strc_semantics.specs.declared.word.Word.{Word}
 use Rattle.strc_graph.specs.Graphs.{NodeCode}
-use Rattle.strc_order.specs.Order.{repeated}
+use Rattle.strc_schedule.specs.Order.{repeated}
 use Rattle.strc_admissible.specs.Machine.{CircuitView, Went, order_run}
 use Rattle.strc_admissible.specs.Rings.{Ring}
 use Rattle.strc_runner.specs.Identities.{KeepsNothing}

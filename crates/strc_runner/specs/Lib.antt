@@ -9,3 +9,4 @@ pub mod Parts
 pub mod Memory
 pub mod Handing
 pub mod Keeping
+pub mod Lanes

@@ -8,7 +8,7 @@ use Rattle.strc_graph.specs.declared.graph.Channel as declared
 use Rattle.strc_admissible.specs.Circuits.{IsCircuit}
 use Rattle.strc_admissible.specs.Machine.{CircuitView, MachineView}
 use Rattle.strc_admissible.specs.Rings.{Ring, ring_at}
-use Rattle.strc_circuit.specs.Parts.{IsOutside, is_within}
+use Rattle.strc_rings.specs.Parts.{IsOutside, is_within}
 use Rattle.strc_runner.specs.Actors.{IsActorOf}
 use Rattle.strc_runner.specs.Running.{IsMachine, words_of}
 use Rattle.strc_runner.specs.declared.actor.Actor.{Actor}

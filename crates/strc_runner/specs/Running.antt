@@ -6,7 +6,7 @@ use Rattle.std.specs.declared.alloc.Global.{Global}
 use Rattle.strc_semantics.specs.declared.fault.Halt.{Halt}
 use Rattle.strc_semantics.specs.declared.fault.Halt.TheVariants as halt
 use Rattle.strc_semantics.specs.declared.word.Word.{Word}
-use Rattle.strc_inst.specs.Running.{MoreWords}
+use Rattle.strc_instructions.specs.Running.{MoreWords}
 use Rattle.strc_runner.specs.Actors.{AreActors, fields_of}
 use Rattle.strc_admissible.specs.Machine.{CircuitView, MachineView, Progress, Went, Stopped}
 use Rattle.strc_admissible.specs.Machine.{words_at, more_words}

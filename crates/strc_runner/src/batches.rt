@@ -3,10 +3,10 @@
 ghost use Rattle.std.specs.Prelude.{◌≡◌, ◌<◌, All, IfOk, Some, [], ◌∷◌, ◌++◌, length, slice_get};
 ghost use Rattle.std.specs.Prelude.{true};
 ghost use Rattle.strc_graph.specs.Graphs.{NodeCode};
-ghost use Rattle.strc_order.specs.Order.{repeated};
+ghost use Rattle.strc_schedule.specs.Order.{repeated};
 ghost use Rattle.strc_admissible.specs.Wiring.{ports_at};
-ghost use Rattle.strc_circuit.specs.Apart.{AreAllApart};
-ghost use Rattle.strc_circuit.specs.Circuits.{circuit_view, IsReady};
+ghost use Rattle.strc_rings.specs.Apart.{AreAllApart};
+ghost use Rattle.strc_rings.specs.Circuits.{circuit_view, IsReady};
 ghost use Rattle.strc_runner.specs.Batches.{AreBatches, FitsKind, IsKindBetween, IsBatch};
 ghost use Rattle.strc_runner.specs.Batches.{IsOrderOf, all_firings, batch_firings, in_circuit};
 ghost use Rattle.strc_runner.specs.Batches.{units_of};
@@ -14,10 +14,10 @@ ghost use Rattle.strc_runner.specs.Batches.{units_of};
 use crate::chains::hands_of;
 use crate::identity::is_identity;
 use std::alloc::{AllocError, Global};
-use strc_circuit::circuit::Circuit;
 use strc_graph::graph::Node;
-use strc_order::unit::Unit;
+use strc_rings::circuit::Circuit;
 use strc_rings::movers::ring_of;
+use strc_schedule::unit::Unit;
 
 /// Firings of one node in a row.
 #[derive(Clone, Copy)]

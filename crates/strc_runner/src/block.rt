@@ -3,15 +3,15 @@
 ghost use Rattle.std.specs.Prelude.{◌≡◌, ◌≢◌, ◌<◌, ◌≤◌, Some, length, true, false};
 ghost use Rattle.strc_admissible.specs.Rings.{items_at, moved};
 ghost use Rattle.strc_admissible.specs.Wiring.{ports_at};
-ghost use Rattle.strc_circuit.specs.Apart.{AreApart};
+ghost use Rattle.strc_rings.specs.Apart.{AreApart};
 ghost use Rattle.strc_runner.specs.Blocks.{HasPassed};
-ghost use Rattle.strc_circuit.specs.Circuits.{circuit_view};
+ghost use Rattle.strc_rings.specs.Circuits.{circuit_view};
 ghost use Rattle.strc_runner.specs.Running.{HoldRings};
 ghost use Rattle.strc_runner.specs.Batches.{IsBatch};
 
 use crate::batches::{Batch, Kind};
-use strc_circuit::circuit::Circuit;
 use strc_graph::graph::{Node, Splitter};
+use strc_rings::circuit::Circuit;
 use strc_rings::dealing::{deal_turns, join_turns};
 use strc_rings::pouring::move_across;
 use strc_rings::ring::Ring;

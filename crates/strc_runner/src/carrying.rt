@@ -2,9 +2,9 @@
 // next one.
 
 ghost use Rattle.std.specs.Prelude.{◌≡◌, ℕ, ◌∷◌, [], All, IfErr, Ok, Err, true, false};
-ghost use Rattle.strc_order.specs.Order.{repeated};
+ghost use Rattle.strc_schedule.specs.Order.{repeated};
 ghost use Rattle.strc_admissible.specs.Machine as spec;
-ghost use Rattle.strc_circuit.specs.Circuits.{circuit_view};
+ghost use Rattle.strc_rings.specs.Circuits.{circuit_view};
 ghost use Rattle.strc_runner.specs.Batches.{IsBatch, batch_firings};
 ghost use Rattle.strc_runner.specs.Handing.{HasDoneByHand, IsHeld, held_view};
 ghost use Rattle.strc_rings.specs.Words.{WantsWordOfStep};
@@ -17,8 +17,8 @@ use crate::batches::{Batch, Kind};
 use crate::handing::{Held, fire_by_hand, nothing_held, put_down, take_up};
 use crate::machine::{Machine, Stop};
 use std::slice::from_ref;
-use strc_circuit::circuit::Circuit;
 use strc_graph::graph::Node;
+use strc_rings::circuit::Circuit;
 use strc_semantics::fault::Halt;
 
 impl Machine {

@@ -3,8 +3,8 @@
 
 use crate::batches::{Batch, BatchList, Kind};
 use std::alloc::{AllocError, Global};
-use strc_circuit::circuit::Circuit;
 use strc_graph::graph::Node;
+use strc_rings::circuit::Circuit;
 use strc_semantics::body::Body;
 
 /// Of each list which of its batches fire by hand; none where too few do.

@@ -14,6 +14,7 @@ ghost use Rattle.strc_rings.specs.Words.{WantsWordOfStep};
 use std::alloc::Global;
 use strc_base::memory::NoMemory;
 use strc_code::code::Code;
+use strc_filter::frame::LaneFrame;
 use strc_graph::graph::Fission;
 use strc_graph::rates::body_at;
 use strc_rings::copy::copy_pops;
@@ -35,6 +36,10 @@ pub(crate) struct FilterActor {
     pub(crate) first: Taking,
     /// What each later one does.
     pub(crate) later: Taking,
+    /// Room for firings in lanes.
+    pub(crate) lanes: LaneFrame,
+    /// How often firings in lanes were tried in vain.
+    pub(crate) parted: u32,
 }
 
 /// How many items a firing looks at, and how many of them it pops.
@@ -64,6 +69,8 @@ pub(crate) fn start_filter(alloc: Global, code: &Code) -> Result<FilterActor, No
         frame,
         first,
         later,
+        lanes: LaneFrame::new(alloc),
+        parted: 0,
     })
 }
 

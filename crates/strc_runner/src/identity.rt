@@ -2,7 +2,7 @@
 
 ghost use Rattle.std.specs.Prelude.{◌≡◌, pos, true};
 ghost use Rattle.strc_syntax.specs.Tree as tree;
-ghost use Rattle.strc_syntax.specs.View.{block_view};
+ghost use Rattle.strc_syntax.specs.View.{block_view, stmt_view};
 ghost use Rattle.strc_semantics.specs.Filters.{filter_of, members_of};
 ghost use Rattle.strc_runner.specs.Identities.{IsIdentity, IsOnlyWork, pushes_popped};
 
@@ -52,5 +52,16 @@ fn is_passing(block: &[Stmt]) -> bool
     let [only] = block else {
         return false;
     };
-    matches!(only, Stmt::Push(Expr::Pop))
+    is_push_of_pop(only)
+}
+
+/// Whether a statement is `push(pop());`.
+fn is_push_of_pop(statement: &Stmt) -> bool
+    ensures { result ≡ true → stmt_view statement.now ≡ tree.Push tree.Pop }
+{
+    match statement {
+        Stmt::Push(Expr::Pop) => true,
+        Stmt::Placed(_, inner) => is_push_of_pop(inner),
+        _ => false,
+    }
 }

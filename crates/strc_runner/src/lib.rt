@@ -3,8 +3,9 @@
 // The theorem to rely on: `fire_order` does what the definition of an order's run says, firing by
 // firing, and each change of a machine by its owner is just what is said of it.
 // Stands on strc_admissible, whose definitions say what a run over rings is, on strc_rings, which
-// moves items over them, on strc_circuit, whose circuits it runs and passes on, on strc_order,
-// whose units it fires, and on strc_work, whose codes it fires.
+// moves items over them, on strc_rings, whose circuits it runs and passes on, on strc_schedule,
+// whose units it fires, on strc_work, whose codes it fires, and on strc_filter, which does many
+// firings of a filter at once.
 #![tactic(auto)]
 
 mod access;
@@ -17,9 +18,10 @@ mod filter;
 mod handing;
 mod identity;
 mod keeping;
+mod lanes;
 pub mod laws;
 pub mod machine;
 mod parting;
 mod passing;
 
-pub use strc_circuit::{circuit, units};
+pub use strc_rings::{circuit, units};

@@ -1,20 +1,21 @@
 // The machine that fires a graph's nodes over rings.
 
-ghost use Rattle.std.specs.Prelude.{◌≡◌, ◌<◌, All, [], ◌∷◌, IfOk, Some, length, replicate};
-ghost use Rattle.std.specs.Prelude.{slice_get};
+ghost use Rattle.std.specs.Prelude.{◌≡◌, ◌<◌, ◌≤◌, All, [], ◌∷◌, IfErr, IfOk, OnOk, Some, Err};
+ghost use Rattle.std.specs.Prelude.{length, replicate, slice_get};
 ghost use Rattle.strc_graph.specs.Graphs as graphs;
 ghost use Rattle.strc_graph.specs.NodeView.{copied_view, graph_view};
-ghost use Rattle.strc_order.specs.Greedy.{firings_of};
-ghost use Rattle.strc_order.specs.Order.{repeated};
+ghost use Rattle.strc_schedule.specs.Greedy.{firings_of};
+ghost use Rattle.strc_schedule.specs.Order.{repeated};
 ghost use Rattle.strc_runner.specs.Actors.{AreActors, AreStartable, AreClosed};
 ghost use Rattle.strc_admissible.specs.Circuits.{IsCircuit, IsFirst};
-ghost use Rattle.strc_circuit.specs.Circuits.{circuit_view};
+ghost use Rattle.strc_rings.specs.Circuits.{circuit_view};
 ghost use Rattle.strc_admissible.specs.Machine as spec;
 ghost use Rattle.strc_runner.specs.Batches.{AreBatches, IsBatch, IsOrderOf, batch_firings};
 ghost use Rattle.strc_runner.specs.Batches.{list_firings, units_of};
 ghost use Rattle.strc_rings.specs.Words.{WantsWordOfStep};
 ghost use Rattle.strc_runner.specs.Memory.{WantsWordOfOrder, prints_at};
-ghost use Rattle.strc_runner.specs.Running.{HasDone, HasGone, IsMachine, machine_view, words_of};
+ghost use Rattle.strc_runner.specs.Running.{HasDone, HasGone, HaveMoreWords, IsMachine};
+ghost use Rattle.strc_runner.specs.Running.{machine_view, words_of};
 
 use crate::actor::{Actor, start_actors};
 use crate::batches::{Batch, BatchList, Order};
@@ -23,8 +24,8 @@ use crate::filter::{fire_copy, fire_filter};
 use crate::passing::fire_passive;
 use std::alloc::{AllocError, Global};
 use strc_base::memory::NoMemory;
-use strc_circuit::circuit::Circuit;
 use strc_graph::graph::{Copied, Fission, Graph, Node};
+use strc_rings::circuit::Circuit;
 use strc_rings::copy::fire_identity_copy;
 use strc_rings::ring::{Ring, first_rings};
 use strc_semantics::fault::{Cause, Halt};
@@ -127,7 +128,7 @@ impl Machine {
         Ok(())
     }
 
-    /// Fires a batch's node so often, one firing after another.
+    /// Fires a batch's node so often, many firings at once where they can be done so.
     #[inline(never)]
     fn fire_alone(&mut self, circuit: &Circuit, batch: &Batch) -> Result<(), Stop>
         requires machine { IsMachine (circuit_view circuit.now) self.old }
@@ -139,13 +140,43 @@ impl Machine {
         ensures memory { WantsWordOfOrder (circuit_view circuit.now)
             (repeated batch.now.turns (batch.now.node ∷ [])) (machine_view self.old) result }
     {
-        for _turn in 0..batch.turns {
-            match self.fire_once(circuit, batch) {
-                Ok(()) => {}
+        let mut left = batch.turns;
+        while left > 0 {
+            match self.fire_next(circuit, batch, left) {
+                Ok(fired) => left -= fired,
                 Err(stop) => return Err(stop),
             }
         }
         Ok(())
+    }
+
+    /// Fires a batch's node, of whose firings so many are left: how many are done.
+    #[inline(always)]
+    fn fire_next(&mut self, circuit: &Circuit, batch: &Batch, left: u32) -> Result<u32, Stop>
+        requires machine { IsMachine (circuit_view circuit.now) self.old }
+        requires batch { IsBatch (circuit_view circuit.now) batch.now }
+        requires left { 0 < left }
+        ensures machine { IsMachine (circuit_view circuit.now) self.new }
+        ensures some { IfOk result (λ fired. 0 < fired) }
+        ensures most { IfOk result (λ fired. fired ≤ left) }
+        ensures went { IfOk result (λ fired. spec.order_run (circuit_view circuit.now)
+            (repeated fired (batch.now.node ∷ [])) (machine_view self.old)
+            ≡ spec.Went (machine_view self.new)) }
+        ensures words { OnOk result (HaveMoreWords (machine_view self.old).words
+            (machine_view self.new).words) }
+        ensures gone { IfErr result (λ stop. HasGone (spec.order_run (circuit_view circuit.now)
+            (batch.now.node ∷ []) (machine_view self.old)) (Err stop)
+            (machine_view self.old).words (machine_view self.new)) }
+        ensures memory { IfErr result (λ stop. WantsWordOfOrder (circuit_view circuit.now)
+            (batch.now.node ∷ []) (machine_view self.old) (Err stop)) }
+    {
+        if self.fire_in_lanes(circuit, batch, left) {
+            return Ok(64);
+        }
+        match self.fire_once(circuit, batch) {
+            Ok(()) => Ok(1),
+            Err(stop) => Err(stop),
+        }
     }
 
     /// Fires the batches of a list, all of them as often as it has turns; those that are marked by

@@ -3,9 +3,9 @@
 ghost use Rattle.std.specs.Prelude.{◌≡◌, ℕ, ◌<◌, ◌≤◌, [], false, length, map, replicate};
 ghost use Rattle.std.specs.Prelude.{slice_index_or, IfErr, IfOk, OnOk};
 ghost use Rattle.strc_graph.specs.NodeView.{channel_view, graph_view};
-ghost use Rattle.strc_circuit.specs.Circuits.{circuit_view};
-ghost use Rattle.strc_circuit.specs.Parts as range;
-ghost use Rattle.strc_circuit.specs.Parts.{IsPartCircuit};
+ghost use Rattle.strc_rings.specs.Circuits.{circuit_view};
+ghost use Rattle.strc_rings.specs.Parts as range;
+ghost use Rattle.strc_rings.specs.Parts.{IsPartCircuit};
 ghost use Rattle.strc_runner.specs.Parts as spec;
 ghost use Rattle.strc_runner.specs.Parts.{AreMarks, HasChosen, HoldsFrom, IsPart, IsRest};
 ghost use Rattle.strc_runner.specs.Parts.{chosen, empty_rings, ends_within};
@@ -18,9 +18,9 @@ use circular_buffer::HeapCircularBuffer;
 use std::alloc::{AllocError, Global};
 use std::mem;
 use strc_base::memory::NoMemory;
-use strc_circuit::circuit::Circuit;
-use strc_circuit::range::is_within;
 use strc_graph::graph::{Channel, Graph};
+use strc_rings::circuit::Circuit;
+use strc_rings::range::is_within;
 use strc_rings::ring::Ring;
 
 impl Machine {

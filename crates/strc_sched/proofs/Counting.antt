@@ -3,13 +3,13 @@ use Rattle.std.proofs.Common.{◌≡◌, ◌≢◌, refl, sym, ap, ◌∙◌, �
 use Rattle.std.proofs.Common.{[], ◌∷◌, ◌++◌, length, take, get_or, arith}
 use Rattle.std.proofs.lemmas.List.{take_more}
 use Rattle.strc_dataflow.specs.Order.{counts_after}
-use Rattle.strc_order.specs.declared.unit as units
-use Rattle.strc_order.specs.Greedy.{firings_of}
-use Rattle.strc_order.specs.Order.{firing_count, repeated}
-use Rattle.strc_order.specs.Schedules.{ScheduleParts}
-use Rattle.strc_order.proofs.Greedily.{firings_push}
-use Rattle.strc_order.proofs.FiringCounts.{firing_count_append, turns_same, turns_other}
-use Rattle.strc_order.proofs.Units.{firing_count_take}
+use Rattle.strc_schedule.specs.declared.unit as units
+use Rattle.strc_schedule.specs.Greedy.{firings_of}
+use Rattle.strc_schedule.specs.Order.{firing_count, repeated}
+use Rattle.strc_schedule.specs.Schedules.{ScheduleParts}
+use Rattle.strc_schedule.proofs.Greedily.{firings_push}
+use Rattle.strc_schedule.proofs.FiringCounts.{firing_count_append, turns_same, turns_other}
+use Rattle.strc_schedule.proofs.Units.{firing_count_take}
 use Rattle.strc_admissible.specs.Laws.{counts_at, startup_order, round_order}
 
 -- a list some times

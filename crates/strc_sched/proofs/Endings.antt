@@ -7,7 +7,7 @@ use Rattle.std.proofs.Math.Seq.{take-append_seam}
 use Rattle.std.proofs.lemmas.Option.{slice_get_within, get_or_from_slice_get}
 use Rattle.strc_semantics.specs.declared.fault.Cause.{Cause}
 use Rattle.strc_semantics.specs.declared.word.Word.{Word}
-use Rattle.strc_inst.specs.Running.{MoreWords}
+use Rattle.strc_instructions.specs.Running.{MoreWords}
 use Rattle.strc_graph.specs.Graphs as graphs
 use Rattle.strc_graph.specs.Graphs.{NodeCode, Graph, gives_words}
 use Rattle.strc_admissible.specs.Machine.{CircuitView, MachineView, Progress, Went, Stopped}
@@ -22,13 +22,13 @@ use Rattle.strc_runner.specs.Actors.{AreClosed, IsClosedNode}
 use Rattle.strc_sched.specs.Plain.{IsEnding, IsStopped}
 use Rattle.strc_runner.specs.Running.{HasGone, HaveMoreWords}
 use Rattle.strc_sched.specs.Tapes.{AreMarked, tapes_from, tapes_of}
-use Rattle.strc_outcome.specs.Tapes.{TapeView, tape}
+use Rattle.strc_refusal.specs.Tapes.{TapeView, tape}
 use Rattle.strc_runner.specs.declared.machine.Stop.{Stop}
 use Rattle.strc_runner.specs.declared.machine.Stop.TheVariants as stop
-use Rattle.strc_outcome.specs.declared.outcome.Outcome.{Outcome}
-use Rattle.strc_outcome.specs.declared.outcome.Round.TheVariants as round
-use Rattle.strc_outcome.specs.declared.refusal.RunRefusal.{RunRefusal}
-use Rattle.strc_outcome.specs.declared.refusal.RunRefusal.TheVariants as refused
+use Rattle.strc_refusal.specs.declared.outcome.Outcome.{Outcome}
+use Rattle.strc_refusal.specs.declared.outcome.Round.TheVariants as round
+use Rattle.strc_refusal.specs.declared.run_refusal.RunRefusal.{RunRefusal}
+use Rattle.strc_refusal.specs.declared.run_refusal.RunRefusal.TheVariants as refused
 
 module _ (circuit : CircuitView) (order : List ℕ) (rounds now_round : ℕ) (left : now_round < rounds)
     (now : MachineView) where

@@ -12,7 +12,7 @@ use Rattle.strc_semantics.specs.declared.word.Word.{Word}
 use Rattle.strc_graph.specs.Graphs.{NodeCode, gives_words}
 use Rattle.strc_graph.specs.NodeView.{node_view}
 use Rattle.strc_graph.specs.declared.graph.Node.{Node}
-use Rattle.strc_outcome.specs.Tapes.{TapeView, tape}
+use Rattle.strc_refusal.specs.Tapes.{TapeView, tape}
 use Rattle.strc_admissible.specs.Machine.{words_at}
 use Rattle.strc_runner.specs.Running.{words_of}
 use Rattle.strc_runner.proofs.WordLists.{words_set}

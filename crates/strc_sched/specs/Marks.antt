@@ -2,7 +2,7 @@
 use Rattle.std.specs.Prelude.{◌≡◌, List, length, map, slice_index, take}
 use Rattle.strc_semantics.specs.declared.word.Word.{Word}
 use Rattle.strc_graph.specs.NodeView.{node_view}
-use Rattle.strc_outcome.specs.Tapes.{TapeView}
+use Rattle.strc_refusal.specs.Tapes.{TapeView}
 use Rattle.strc_admissible.specs.Machine.{words_at}
 use Rattle.strc_graph.specs.Tapes.{tape_nodes_from}
 use Rattle.strc_sched.specs.Tapes.{tapes_of}

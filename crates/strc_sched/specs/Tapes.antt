@@ -3,7 +3,7 @@ use Rattle.std.specs.Prelude.{◌≡◌, ℕ, suc, List, [], ◌∷◌, Some, tr
 use Rattle.std.specs.Prelude.{slice_index, if◌then◌else◌}
 use Rattle.strc_semantics.specs.declared.word.Word.{Word}
 use Rattle.strc_graph.specs.Graphs.{NodeCode, gives_words}
-use Rattle.strc_outcome.specs.Tapes.{TapeView, tape}
+use Rattle.strc_refusal.specs.Tapes.{TapeView, tape}
 use Rattle.strc_admissible.specs.Machine.{words_at}
 
 -- a tape of each node that gives words, where the first of these nodes has this number

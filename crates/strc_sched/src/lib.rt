@@ -3,8 +3,8 @@
 // The theorem to rely on: `run_plain` gives the answer of the stream equations, for whatever
 // stream's flat graph this is.
 // Stands on strc_runner, whose machine it runs, on strc_admissible, whose laws say that a schedule
-// is admissible and that a run over rings gives the answer, on strc_order, whose schedules it runs
-// and passes on, and on strc_outcome, whose outcomes it gives and passes on.
+// is admissible and that a run over rings gives the answer, on strc_schedule, whose schedules it
+// runs and passes on, and on strc_refusal, whose outcomes it gives and passes on.
 #![tactic(auto)]
 
 pub mod plain;
@@ -12,5 +12,5 @@ mod reading;
 pub mod serving;
 mod tapes;
 
-pub use strc_order::{error, laws, parts, planning, sizing, unit};
-pub use strc_outcome::{outcome, refusal};
+pub use strc_refusal::{outcome, run_refusal};
+pub use strc_schedule::{error, laws, parts, planning, sizing, unit};

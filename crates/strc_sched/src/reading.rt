@@ -2,15 +2,15 @@
 
 ghost use Rattle.std.specs.Prelude.{◌≡◌, ◌≤◌, ◌^◌, ℕ, map};
 ghost use Rattle.strc_graph.specs.NodeView.{node_view};
-ghost use Rattle.strc_order.specs.Greedy as spec;
-ghost use Rattle.strc_order.specs.Order.{firing_count, repeated};
+ghost use Rattle.strc_schedule.specs.Greedy as spec;
+ghost use Rattle.strc_schedule.specs.Order.{firing_count, repeated};
 ghost use Rattle.strc_admissible.specs.Laws.{startup_order, round_order, counts_at};
 ghost use Rattle.strc_admissible.specs.Planned.{items_read};
 ghost use Rattle.strc_sched.specs.Reading.{count_of, FiresFew};
 
 use strc_graph::graph::Node;
-use strc_order::parts::Schedule;
-use strc_order::unit::Unit;
+use strc_schedule::parts::Schedule;
+use strc_schedule::unit::Unit;
 
 /// How many items start-up and so many rounds of a schedule read.
 pub(crate) fn items_needed(nodes: &[Node], schedule: &Schedule, rounds: u32) -> u64

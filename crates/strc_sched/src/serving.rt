@@ -10,7 +10,7 @@ ghost use Rattle.strc_sched.specs.Serving.{IsServed, reads_by_round};
 
 use crate::reading::{firings_of, reader_of};
 use strc_graph::graph::Graph;
-use strc_order::parts::Schedule;
+use strc_schedule::parts::Schedule;
 
 /// The greatest number of rounds of a schedule that read no more than so many items, at most
 /// 4,294,967,295; none where start-up alone reads more. The condition is that of `run_plain`.

@@ -3,7 +3,7 @@
 ghost use Rattle.std.specs.Prelude.{◌≡◌, ◌<◌, IfOk, [], length, map, take};
 ghost use Rattle.strc_graph.specs.NodeView.{node_view};
 ghost use Rattle.strc_graph.specs.Tapes.{tape_nodes_from};
-ghost use Rattle.strc_outcome.specs.Tapes.{tape, tape_view};
+ghost use Rattle.strc_refusal.specs.Tapes.{tape, tape_view};
 ghost use Rattle.strc_admissible.specs.Machine.{words_at};
 ghost use Rattle.strc_sched.specs.Marks.{IsMarks, kept_tapes};
 ghost use Rattle.strc_runner.specs.Running.{words_of};
@@ -15,7 +15,7 @@ use std::mem;
 use strc_base::memory::NoMemory;
 use strc_graph::graph::Node;
 use strc_graph::tapes::gives_words;
-use strc_order::limit::NUMBERED_NODES;
+use strc_schedule::limit::NUMBERED_NODES;
 use strc_semantics::word::Word;
 
 /// How many words each tape had when a round began.

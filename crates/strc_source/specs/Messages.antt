@@ -1,8 +1,7 @@
 -- What a person reads of a refusal or a fault: where it is, and then more.
-use Rattle.std.specs.Prelude.{◌≡◌, ℕ, ◌+◌, ◌≤◌, List, ◌++◌, codes, decimal, length, take}
+use Rattle.std.specs.Prelude.{◌≡◌, ℕ, List, ◌++◌, codes, decimal, length, take}
 use Rattle.std.specs.Prelude.{Option, Some, None}
 use Rattle.strc_source.specs.Places.{IsPlace}
-use Rattle.strc_source.specs.declared.message.Extent.{Extent}
 use Rattle.strc_source.specs.declared.place.Place.{Place}
 
 -- a place as it is written: its line and its column
@@ -27,7 +26,3 @@ pub record IsMessage (file text message : List ℕ) : Type 0 where
   pub is_head : IsHead file text at head
   pub rest : List ℕ
   pub written : message ≡ head ++ rest ++ codes "\n"
-
--- a part of a text, which isn't past its end
-abbrev pub IsWithin : (text : List ℕ) → Extent → Type 0
-IsWithin text part = part.at + part.length ≤ length text

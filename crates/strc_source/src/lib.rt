@@ -1,14 +1,19 @@
-// Takes a program's text with its tokens.
-// Gives the parts of a message on it: where declarations and statements are, a part's place, its
-// source line with a mark, and which names could have stood there.
-// The theorem to rely on: `place_of`: lines and columns are those of the text.
-// Stands on strc_lex, which says where tokens are, and on memchr, strsim and itoa.
+// Takes a program's text with its tokens, and the stream and the graph that it means.
+// Gives what messages are built of: places by line and column, excerpts with a mark, names that are
+// near to one; and nodes in preorder with the statements they come from, their names, counts and
+// stuck loops.
+// The theorem to rely on: `place_of`: line and column are the text's; a message is its file, a
+// place where it is about one, what it says, and a line feed.
+// Stands on strc_lex, whose tokens these are, on strc_stream and strc_graph, whose nodes, on
+// strc_balance, whose counts, and on memchr, strsim and itoa.
 #![tactic(auto)]
 
-pub mod added;
-pub mod declarations;
+pub mod counts;
 pub mod message;
 pub mod nearest;
+pub mod nodes;
 pub mod place;
-pub mod rows;
+pub mod preorder;
 pub mod source;
+pub mod stuck;
+pub mod tokens;

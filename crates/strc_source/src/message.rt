@@ -9,16 +9,10 @@ use crate::place::{line_before, line_from, place_of};
 use itoa::Buffer;
 use std::alloc::{AllocError, Global};
 use std::marker::Model;
+use strc_base::place::Span;
 
 /// How many bytes of a source line are shown before its mark, and how many from it on.
 const SHOWN: usize = 100;
-
-/// A part of a text: where it begins, and how many bytes it has.
-#[derive(Clone, Copy)]
-pub struct Extent {
-    pub at: usize,
-    pub length: usize,
-}
 
 /// What a message says, as it is built.
 #[derive(Drop)]
@@ -49,15 +43,15 @@ impl Message {
         alloc: Global,
         file: &str,
         text: &[u8],
-        place: Option<Extent>,
+        place: Option<Span>,
     ) -> Result<Message, AllocError>
         ensures { IfOk result (λ head.
-            IsHead file.now text.now (option_map (λ part. part.at) place) head) }
+            IsHead file.now text.now (option_map (λ part. part.start) place) head) }
     {
         let mut message = Message::new(alloc);
         message.add(file.as_bytes())?;
-        if let Some(extent) = place {
-            let place = place_of(text, extent.at);
+        if let Some(part) = place {
+            let place = place_of(text, part.start);
             message.add(b":")?;
             message.number(place.line as u64)?;
             message.add(b":")?;
@@ -74,7 +68,7 @@ impl Message {
         alloc: Global,
         file: &str,
         text: &[u8],
-        place: Option<Extent>,
+        place: Option<Span>,
     ) -> Result<Vec<u8>, AllocError>
         ensures { IfOk result (λ message. IsMessage file.now text.now message.items) }
     {
@@ -111,17 +105,17 @@ impl Message {
     }
 
     /// The source line of a place with a mark below it, on lines of their own.
-    pub fn excerpt(&mut self, text: &[u8], extent: Extent) -> Result<(), AllocError> {
-        let before = line_before(text, extent.at);
+    pub fn excerpt(&mut self, text: &[u8], part: Span) -> Result<(), AllocError> {
+        let before = line_before(text, part.start);
         let before = &before[before.len().saturating_sub(SHOWN)..];
-        let rest = line_from(text, extent.at);
+        let rest = line_from(text, part.start);
         let rest = &rest[..rest.len().min(SHOWN)];
         self.add(b"\n    ")?;
         self.add(before)?;
         self.add(rest)?;
         self.add(b"\n    ")?;
         self.blank(before)?;
-        self.mark(extent.length.min(rest.len()))
+        self.mark(part.end.saturating_sub(part.start).min(rest.len()))
     }
 
     /// As much room as these bytes take: a tab for a tab, and none inside of a character.

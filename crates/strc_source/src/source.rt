@@ -1,13 +1,14 @@
 // A program's text with its file's name and its tokens.
 
 ghost use Rattle.std.specs.Prelude.{◌≡◌, ◌-◌, take, drop, IfOk};
-ghost use Rattle.strc_source.specs.Messages.{IsMessage, IsWithin};
+ghost use Rattle.strc_source.specs.Messages.{IsMessage};
 
-use crate::declarations::{extent_of, first_use};
-use crate::message::{Extent, Message};
+use crate::message::Message;
+use crate::tokens::is_mark;
 use std::alloc::Global;
 use strc_base::memory::NoMemory;
-use strc_lex::token::Token;
+use strc_base::place::Span;
+use strc_lex::token::{Punctuation, Token};
 
 /// A program's text.
 #[derive(Clone, Copy)]
@@ -25,7 +26,7 @@ impl<'a> Source<'a> {
     pub fn message(
         self,
         alloc: Global,
-        place: Option<Extent>,
+        place: Option<Span>,
         message: Message,
     ) -> Result<Vec<u8>, NoMemory>
         ensures { IfOk result (λ message.
@@ -34,66 +35,49 @@ impl<'a> Source<'a> {
         Ok(message.end(alloc, self.file, self.text, place)?)
     }
 
-    /// A part of the text, as far as it is there.
-    pub fn within(self, part: Extent) -> Extent
-        ensures within { IsWithin self.entry.text.now result }
-        ensures same { IsWithin self.entry.text.now part → result ≡ part }
-    {
-        let at = part.at.min(self.text.len());
-        Extent {
-            at,
-            length: part.length.min(self.text.len() - at),
-        }
-    }
-
     /// The source line of a place, where there is one.
-    pub fn excerpt(self, message: &mut Message, place: Option<Extent>) -> Result<(), NoMemory> {
+    pub fn excerpt(self, message: &mut Message, place: Option<Span>) -> Result<(), NoMemory> {
         match place {
-            Some(extent) => Ok(message.excerpt(self.text, extent)?),
+            Some(part) => Ok(message.excerpt(self.text, part)?),
             None => Ok(()),
         }
     }
 
-    /// The place of a token, or of the text's end.
-    pub fn token_place(self, token: usize) -> Extent {
-        match self.tokens.get(token) {
-            Some(found) => extent_of(found.span),
-            None => Extent {
-                at: self.end(),
-                length: 1,
-            },
-        }
-    }
-
-    /// Where the last token ends.
-    fn end(self) -> usize {
-        match self.tokens.last() {
-            Some(token) => token.span.end,
-            None => 0,
-        }
-    }
-
     /// The bytes of a place.
-    pub fn bytes(self, extent: Extent) -> &'a [u8]
-        ensures { result.now ≡ take extent.length (drop extent.at self.entry.text.now) }
+    pub fn bytes(self, place: Span) -> &'a [u8]
+        ensures { result.now ≡ take (place.end - place.start)
+            (drop place.start self.entry.text.now) }
     {
-        let start = extent.at.min(self.text.len());
+        let start = place.start.min(self.text.len());
         let rest = &self.text[start..];
-        &rest[..extent.length.min(rest.len())]
+        &rest[..place.end.saturating_sub(place.start).min(rest.len())]
     }
 
-    /// The bytes from a place up to another.
-    pub fn between(self, start: usize, end: usize) -> &'a [u8]
-        ensures { result.now ≡ take (end - start) (drop start self.entry.text.now) }
-    {
-        self.bytes(Extent {
-            at: start,
-            length: end.saturating_sub(start),
-        })
-    }
-
-    /// The place where a name is used first.
-    pub fn use_of(self, name: &[u8]) -> Option<Extent> {
-        first_use(self.tokens, name)
+    /// What is marked of a statement or a name: a statement up to its first block, or else with its
+    /// first semicolon outside of brackets.
+    pub fn heading(self, place: Span) -> Span {
+        let mut depth: usize = 0;
+        let mut end = place.start;
+        for token in self.tokens {
+            if token.span.start < place.start {
+                continue;
+            }
+            let is_block = is_mark(token, Punctuation::OpenBrace) && end > place.start;
+            if is_block || token.span.end > place.end {
+                break;
+            }
+            end = token.span.end;
+            if is_mark(token, Punctuation::OpenParen) {
+                depth = depth.saturating_add(1);
+            } else if is_mark(token, Punctuation::CloseParen) {
+                depth = depth.saturating_sub(1);
+            } else if depth == 0 && is_mark(token, Punctuation::Semicolon) {
+                break;
+            }
+        }
+        Span {
+            start: place.start,
+            end,
+        }
     }
 }

@@ -16,11 +16,11 @@ use Rattle.strc_graph.specs.Meaning.{node_meaning, node_fields}
 use Rattle.strc_graph.specs.Rates.{fires_by_rounds}
 use Rattle.strc_graph.specs.declared.graph.Fission.{Fission}
 use Rattle.strc_balance.specs.Balance.{count_at}
-use Rattle.strc_order.specs.Schedules.{ScheduleParts}
+use Rattle.strc_schedule.specs.Schedules.{ScheduleParts}
 use Rattle.strc_admissible.specs.Fits.{Queues}
 use Rattle.strc_admissible.specs.Planned.{IsPlanned}
-use Rattle.strc_rounds.specs.Split.{Agree}
-use Rattle.strc_rounds.specs.Starting.{state_dealt}
+use Rattle.strc_dataflow.specs.Split.{Agree}
+use Rattle.strc_dataflow.specs.Starting.{state_dealt}
 use Rattle.strc_fiss.specs.Numbers.{is_dealt, last_part, base}
 use Rattle.strc_fiss.specs.Splitting.{code_at, copied, new_code, part_of}
 use Rattle.strc_fiss.specs.Ways.{dealt, fission_of, ways_of}

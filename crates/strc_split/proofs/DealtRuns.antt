@@ -7,7 +7,7 @@ use Rattle.strc_dataflow.specs.Streams.{any_code}
 use Rattle.strc_graph.specs.Graphs.{NodeCode, Graph}
 use Rattle.strc_graph.specs.Meaning.{node_meaning}
 use Rattle.strc_graph.specs.declared.graph.Fission.{Fission}
-use Rattle.strc_order.specs.Schedules.{ScheduleParts}
+use Rattle.strc_schedule.specs.Schedules.{ScheduleParts}
 use Rattle.strc_admissible.specs.Fits.{Queues}
 use Rattle.strc_admissible.specs.Planned.{IsPlanned}
 use Rattle.strc_fiss.specs.Numbers.{is_dealt, base}

@@ -10,11 +10,11 @@ use Rattle.strc_dataflow.specs.Queues.{fifo_rounds}
 use Rattle.strc_dataflow.specs.Streams.{flat}
 use Rattle.strc_balance.specs.Balance.{count_at}
 use Rattle.strc_startup.specs.Rates.{rates_of}
-use Rattle.strc_order.specs.Order.{firing_count}
+use Rattle.strc_schedule.specs.Order.{firing_count}
 use Rattle.strc_admissible.specs.Laws.{startup_order, round_order}
 use Rattle.strc_admissible.proofs.Rounds.{past_prework, balances}
-use Rattle.strc_rounds.specs.FusedUnits.{RoundUnit, firings_of}
-use Rattle.strc_rounds.specs.Runs.{IsSameOutcome}
+use Rattle.strc_dataflow.specs.FusedUnits.{RoundUnit, firings_of}
+use Rattle.strc_dataflow.specs.Runs.{IsSameOutcome}
 use Rattle.strc_fuse.specs.Units.{is_free, round_units}
 use Rattle.strc_fuse.proofs.Lawful.{fused_units_stay, fused_units_count}
 use Rattle.strc_fiss.specs.Numbers.{is_dealt}

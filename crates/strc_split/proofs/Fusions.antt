@@ -7,12 +7,12 @@ use Rattle.std.proofs.lemmas.Bool.{not_from_true, true≢false}
 use Rattle.std.proofs.lemmas.Option.{slice_get-get_or, slice_get_past}
 use Rattle.strc_graph.specs.Graphs.{Graph, NodeCode, IsGraph, Joiner, Copy, Gather}
 use Rattle.strc_graph.specs.declared.graph.Fission.{Fission}
-use Rattle.strc_rounds.specs.FusedUnits.{RoundUnit, AreFree, AreFused}
-use Rattle.strc_rounds.specs.Pieces.{Piece, Piece.Plain, Piece.Whole, ArePieces, AreKept}
-use Rattle.strc_rounds.specs.Pieces.{units_before, units_after}
-use Rattle.strc_rounds.proofs.Pieces.{pieces_kept}
+use Rattle.strc_dataflow.specs.FusedUnits.{RoundUnit, AreFree, AreFused}
+use Rattle.strc_dataflow.specs.Pieces.{Piece, Piece.Plain, Piece.Whole, ArePieces, AreKept}
+use Rattle.strc_dataflow.specs.Pieces.{units_before, units_after}
+use Rattle.strc_dataflow.proofs.Pieces.{pieces_kept}
 use Rattle.strc_startup.specs.declared.channel_rates.ChannelRates.{ChannelRates}
-use Rattle.strc_order.specs.Firings.{Firings}
+use Rattle.strc_schedule.specs.Firings.{Firings}
 use Rattle.strc_fuse.specs.Units.{is_free, is_outside, is_whole_node, ArePlaced}
 use Rattle.strc_fiss.specs.Laws.{piece_of, pieces_of, IsOwn, AreOwn}
 use Rattle.strc_fiss.specs.Numbers.{is_dealt, last_part, base, parts_after}

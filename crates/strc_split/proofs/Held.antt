@@ -4,8 +4,8 @@ use Rattle.std.proofs.Common.{pos, List, [], ◌∷◌, length, map, replicate, 
 use Rattle.std.proofs.lemmas.List.{length-replicate}
 use Rattle.strc_graph.specs.Graphs.{Channel, Graph, NodeCode, source_in, source_of}
 use Rattle.strc_startup.specs.declared.channel_rates.ChannelRates.{ChannelRates}
-use Rattle.strc_order.specs.RoundRates.{round_rates_of_channel}
-use Rattle.strc_order.specs.Sizing.{rates_on, all_rates_on}
+use Rattle.strc_schedule.specs.RoundRates.{round_rates_of_channel}
+use Rattle.strc_schedule.specs.Sizing.{rates_on, all_rates_on}
 use Rattle.strc_fiss.proofs.Each.{Each, each_all}
 use Rattle.strc_split.specs.Sources.{EndApart}
 use Rattle.strc_split.proofs.Ends.{Ends, ends_there, ends_by, source_is}

@@ -6,8 +6,8 @@ use Rattle.std.proofs.lemmas.List.{map-append, length-replicate}
 use Rattle.strc_graph.specs.Graphs.{Channel, Graph, NodeCode}
 use Rattle.strc_graph.specs.declared.graph.Fission.{Fission}
 use Rattle.strc_startup.specs.declared.channel_rates.ChannelRates.{ChannelRates}
-use Rattle.strc_order.specs.RoundRates.{round_rates_of_channel}
-use Rattle.strc_order.specs.Sizing.{rates_on, all_rates_on, round_rates_on}
+use Rattle.strc_schedule.specs.RoundRates.{round_rates_of_channel}
+use Rattle.strc_schedule.specs.Sizing.{rates_on, all_rates_on, round_rates_on}
 use Rattle.strc_fiss.specs.Numbers.{up_to, is_dealt, base}
 use Rattle.strc_fiss.specs.Splitting.{Wire, wires_of, leaves, to_copy, from_copy, inner_wires}
 use Rattle.strc_fiss.specs.Splitting.{renamed_wire, leaving, new_wires, split_wires, split_graph}

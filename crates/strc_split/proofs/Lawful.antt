@@ -7,23 +7,23 @@ use Rattle.std.proofs.lemmas.List.{length-map, get_or_default}
 use Rattle.std.proofs.lemmas.Option.{slice_get-get_or}
 use Rattle.strc_syntax.specs.declared.tree.ItemType.{ItemType}
 use Rattle.strc_syntax.specs.declared.tree.ItemType.TheVariants as item
-use Rattle.strc_alike.proofs.Alike.{filters_alike, identities_alike}
-use Rattle.strc_dealing.specs.Dealing.{share_of}
-use Rattle.strc_dealing.proofs.Parts.{is_scatter, is_copy, is_gather}
+use Rattle.strc_admissible.proofs.Alike.{filters_alike, identities_alike}
+use Rattle.strc_admissible.specs.Dealing.{share_of}
+use Rattle.strc_admissible.proofs.Parts.{is_scatter, is_copy, is_gather}
 use Rattle.strc_graph.specs.Graphs.{Graph, NodeCode, Filter, Identity, FileReader, FileWriter}
 use Rattle.strc_graph.specs.Graphs.{Splitter, Joiner, Scatter, Copy, Gather, IsGraph, ports_of}
 use Rattle.strc_graph.specs.Graphs.{original, input_ports}
 use Rattle.strc_graph.specs.Meaning.{node_meaning}
 use Rattle.strc_graph.specs.Rates.{rate_at_0, window_at, pushes_at}
 use Rattle.strc_graph.specs.declared.graph.Fission.{Fission}
-use Rattle.strc_rounds.specs.Split.{IsStateless, IsScatter, IsCopy, IsGather, AreParts}
+use Rattle.strc_dataflow.specs.Split.{IsStateless, IsScatter, IsCopy, IsGather, AreParts}
 use Rattle.strc_balance.specs.Balance.{count_at}
 use Rattle.strc_startup.specs.Rates.{rates_of, rates_of_channel}
-use Rattle.strc_order.specs.RoundRates.{pops_in_round}
-use Rattle.strc_order.specs.Schedules.{ScheduleParts}
+use Rattle.strc_schedule.specs.RoundRates.{pops_in_round}
+use Rattle.strc_schedule.specs.Schedules.{ScheduleParts}
 use Rattle.strc_admissible.specs.Planned.{IsFilterOf, IsPlanned, AreKnown}
 use Rattle.strc_fuse.specs.Units.{is_outside}
-use Rattle.strc_writes.specs.Stateless.{is_stateless}
+use Rattle.strc_interval.specs.Stateless.{is_stateless}
 use Rattle.strc_fiss.specs.Numbers.{is_dealt, parts_after}
 use Rattle.strc_fiss.specs.Splitting.{copied, code_at}
 use Rattle.strc_fiss.specs.Ways.{is_alike, passes_items, dealt, fission_of}

@@ -10,12 +10,12 @@ use Rattle.strc_graph.specs.Graphs.{FileReader, FileWriter, Splitter, Joiner}
 use Rattle.strc_graph.specs.Rates.{fires_by_rounds}
 use Rattle.strc_graph.specs.declared.graph.Fission.{Fission}
 use Rattle.strc_balance.specs.Balance.{count_at}
-use Rattle.strc_order.specs.Firings.{turns_of}
-use Rattle.strc_order.specs.Schedules.{ScheduleParts}
+use Rattle.strc_schedule.specs.Firings.{turns_of}
+use Rattle.strc_schedule.specs.Schedules.{ScheduleParts}
 use Rattle.strc_admissible.specs.Planned.{IsPlanned}
 use Rattle.strc_admissible.proofs.Orders.{AreNodes}
-use Rattle.strc_rounds.specs.Blocks.{Block, One, All, AreBlocks, times, copies, old_order}
-use Rattle.strc_rounds.specs.Blocks.{new_order}
+use Rattle.strc_dataflow.specs.Blocks.{Block, One, All, AreBlocks, times, copies, old_order}
+use Rattle.strc_dataflow.specs.Blocks.{new_order}
 use Rattle.strc_fiss.specs.Numbers.{is_dealt, last_part, base, parts_after}
 use Rattle.strc_fiss.specs.Splitting.{code_at, copied, new_code, part_of}
 use Rattle.strc_fiss.specs.Ways.{dealt, fission_of, ways_of}

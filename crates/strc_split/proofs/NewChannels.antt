@@ -8,8 +8,8 @@ use Rattle.strc_dataflow.specs.Streams.{nothing}
 use Rattle.strc_graph.specs.FlatGraphs.{program_input}
 use Rattle.strc_graph.specs.Graphs.{Channel, Graph, source_of}
 use Rattle.strc_graph.specs.declared.graph.Fission.{Fission}
-use Rattle.strc_rounds.specs.Split.{renamed}
-use Rattle.strc_rounds.proofs.Numbers.{numbers_apart}
+use Rattle.strc_dataflow.specs.Split.{renamed}
+use Rattle.strc_dataflow.proofs.Numbers.{numbers_apart}
 use Rattle.strc_fiss.specs.Numbers.{up_to, is_dealt, last_part, base, parts_after}
 use Rattle.strc_fiss.specs.Splitting.{Wire, wires_of, to_copy, from_copy, inner_wires, leaves}
 use Rattle.strc_fiss.specs.Splitting.{renamed_channel, renamed_wire, leaving, split_wires}

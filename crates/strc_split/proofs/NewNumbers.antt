@@ -8,7 +8,7 @@ use Rattle.strc_graph.specs.Graphs.{NodeCode, Copy, Gather}
 use Rattle.strc_graph.specs.Graphs.{Joiner}
 use Rattle.strc_graph.specs.Rates.{fires_by_rounds}
 use Rattle.strc_graph.specs.declared.graph.Fission.{Fission}
-use Rattle.strc_rounds.proofs.Numbers as numbers
+use Rattle.strc_dataflow.proofs.Numbers as numbers
 use Rattle.strc_fiss.specs.Numbers.{is_dealt, last_part, base, each_part, origin_of, parts_after}
 use Rattle.strc_fiss.specs.Splitting.{code_at, copied, new_code, part_of}
 use Rattle.strc_fiss.specs.declared.split.Origin.{Origin}

@@ -18,7 +18,7 @@ use Rattle.strc_graph.specs.Graphs.{FileReader, FileWriter, Splitter, Joiner, Sc
 use Rattle.strc_graph.specs.FlatGraphs.{IsProgram, IsFlat}
 use Rattle.strc_graph.specs.Meaning.{node_meaning, ports_in}
 use Rattle.strc_graph.proofs.Idle.{same_or_idle}
-use Rattle.strc_order.proofs.FiringCounts.{turns_same}
+use Rattle.strc_schedule.proofs.FiringCounts.{turns_same}
 use Rattle.strc_admissible.proofs.Orders.{AreNodes, is_reader}
 use Rattle.strc_split.specs.Sources.{flat_graph, source_at, takes_input, EndApart}
 use Rattle.strc_split.proofs.Splits.{at_reader, at_other}

@@ -8,15 +8,15 @@ use Rattle.strc_graph.specs.Graphs.{Splitter, Joiner, Scatter, Copy, Gather}
 use Rattle.strc_graph.specs.declared.graph.Fission.{Fission}
 use Rattle.strc_balance.specs.Balance.{count_at}
 use Rattle.strc_startup.specs.Rates.{rates_of}
-use Rattle.strc_order.specs.declared.unit as units
-use Rattle.strc_order.specs.Firings.{Firings, fired}
-use Rattle.strc_order.specs.Greedy.{IsGreedy, less_turns}
-use Rattle.strc_order.specs.Order.{firing_count}
-use Rattle.strc_order.proofs.FiringCounts.{turns_same}
+use Rattle.strc_schedule.specs.declared.unit as units
+use Rattle.strc_schedule.specs.Firings.{Firings, fired}
+use Rattle.strc_schedule.specs.Greedy.{IsGreedy, less_turns}
+use Rattle.strc_schedule.specs.Order.{firing_count}
+use Rattle.strc_schedule.proofs.FiringCounts.{turns_same}
 use Rattle.strc_fuse.specs.Units.{is_outside, is_whole_node, is_free, round_units}
 use Rattle.strc_fuse.specs.Units.{IsPlaced, ArePlaced}
 use Rattle.strc_fuse.proofs.Lawful.{programs_are_placed}
-use Rattle.strc_rounds.specs.FusedUnits.{RoundUnit, AreFree}
+use Rattle.strc_dataflow.specs.FusedUnits.{RoundUnit, AreFree}
 use Rattle.strc_fiss.specs.Laws.{IsOwn, AreOwn}
 use Rattle.strc_fiss.specs.Numbers.{is_dealt}
 use Rattle.strc_fiss.specs.Ways.{is_alike, feeds_itself, fission_of}

@@ -3,7 +3,7 @@ use Rattle.std.proofs.Common.{◌≡◌, refl, sym, ap, ap₂, ◌∙◌, ℕ, z
 use Rattle.std.proofs.Common.{Bool, cond, Some, slice_get, inl, inr}
 use Rattle.std.proofs.lemmas.Bool.{lt-ltb, le-ltb, cases_lt}
 use Rattle.strc_graph.specs.declared.graph.Fission.{Fission}
-use Rattle.strc_rounds.proofs.Numbers as numbers
+use Rattle.strc_dataflow.proofs.Numbers as numbers
 use Rattle.strc_fiss.specs.Numbers.{last_part, base, each_part, origin_of, parts_after}
 use Rattle.strc_fiss.proofs.Bases.{base_up}
 use Rattle.strc_fiss.proofs.Lookup.{part_there}

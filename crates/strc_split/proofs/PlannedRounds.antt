@@ -8,11 +8,11 @@ use Rattle.strc_graph.specs.FlatGraphs.{IsProgram}
 use Rattle.strc_graph.specs.Meaning.{node_meaning}
 use Rattle.strc_balance.specs.Balance.{count_at}
 use Rattle.strc_startup.specs.Rates.{rates_of}
-use Rattle.strc_order.specs.Firings.{Firings}
-use Rattle.strc_order.specs.Order.{firing_count, IsOrder}
-use Rattle.strc_order.specs.Rounds.{rounds_on}
-use Rattle.strc_order.specs.Schedules.{ScheduleParts}
-use Rattle.strc_order.proofs.Repeating.{order_repeats}
+use Rattle.strc_schedule.specs.Firings.{Firings}
+use Rattle.strc_schedule.specs.Order.{firing_count, IsOrder}
+use Rattle.strc_schedule.specs.Rounds.{rounds_on}
+use Rattle.strc_schedule.specs.Schedules.{ScheduleParts}
+use Rattle.strc_schedule.proofs.Repeating.{order_repeats}
 use Rattle.strc_admissible.specs.Laws.{startup_order, round_order, counts_at}
 use Rattle.strc_admissible.specs.Planned.{IsPlanned, items_read}
 use Rattle.strc_admissible.proofs.Orders.{AreNodes, firing_count_is, generic_order}

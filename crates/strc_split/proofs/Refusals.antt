@@ -1,5 +1,6 @@
 -- Fission and fusion of a greedy schedule stay within the limits, or pass one, and never both.
-use Rattle.std.proofs.Common.{◌≡◌, ◌∙◌, refl, sym, ap, subst, ℕ, zero, suc, ◌+◌, ◌*◌, ◌<◌, Bool, true}
+use Rattle.std.proofs.Common.{◌≡◌, ◌∙◌, refl, sym, ap, subst, ℕ, zero, suc, ◌+◌, ◌*◌, ◌<◌, Bool}
+use Rattle.std.proofs.Common.{true}
 use Rattle.std.proofs.Common.{false, List, [], ◌∷◌, ◌++◌, length, arith, cond, eqb}
 use borrow.Author.Tests.{eqb-true}
 use Rattle.std.proofs.lemmas.List.{length-map}
@@ -7,19 +8,19 @@ use Rattle.strc_graph.specs.Graphs.{Graph}
 use Rattle.strc_graph.specs.NodeView.{graph_view, channel_view}
 use Rattle.strc_graph.specs.declared.graph.Fission.{Fission}
 use Rattle.strc_startup.specs.Rates.{rates_of}
-use Rattle.strc_order.specs.Firings.{Firings, none_fired}
-use Rattle.strc_order.specs.Greedy as order
-use Rattle.strc_order.specs.Schedules.{IsSchedule, ScheduleParts}
-use Rattle.strc_order.specs.Sizing.{PassesOn, round_rates_on}
-use Rattle.strc_rounds.specs.FusedUnits.{AreFused, RoundUnit, firings_of}
-use Rattle.strc_rounds.specs.Pieces.{unit_of}
+use Rattle.strc_schedule.specs.Firings.{Firings, none_fired}
+use Rattle.strc_schedule.specs.Greedy as order
+use Rattle.strc_schedule.specs.Schedules.{IsSchedule, ScheduleParts}
+use Rattle.strc_schedule.specs.Sizing.{PassesOn, round_rates_on}
+use Rattle.strc_dataflow.specs.FusedUnits.{AreFused, RoundUnit, firings_of}
+use Rattle.strc_dataflow.specs.Pieces.{unit_of}
 use Rattle.strc_fuse.specs.Fusion.{FusedPass, IsFusion}
 use Rattle.strc_fuse.specs.Laws.{AllFireNodes}
 use Rattle.strc_fuse.specs.Units.{is_free, round_units}
 use Rattle.strc_fuse.proofs.Counting.{firings_same}
 use Rattle.strc_fuse.proofs.OneFusion.{one_fusion}
-use Rattle.strc_fused.proofs.Exclusion.{never_both, same_last, same_greatest}
-use Rattle.strc_fused.proofs.GreedyOnce.{greedy_fires, one_greedy}
+use Rattle.strc_fuse.proofs.Exclusion.{never_both, same_last, same_greatest}
+use Rattle.strc_fuse.proofs.GreedyOnce.{greedy_fires, one_greedy}
 use Rattle.strc_fiss.specs.Fissions.{IsFission, SplitPasses}
 use Rattle.strc_fiss.specs.Numbers.{up_to, is_dealt, base}
 use Rattle.strc_fiss.specs.Splits.{SplitParts}
@@ -177,8 +178,8 @@ fusion_passes_none graph threshold unfused fused twin channel fire fusion round 
     (firings_of pass.units) twin.greatest channel) last pass.passes in
     let high = subst (λ (l : List ℕ). PassesOn (round_rates_on graph unfused.last) none_fired
     (firings_of pass.units) l channel) greatest held in
-    never_both graph unfused.last (order.firings_of fused.round) unfused.greatest fused.sizes channel
-    fusion.each fusion.within fusion.sizes
+    never_both graph unfused.last (order.firings_of fused.round) unfused.greatest fused.sizes
+    channel fusion.each fusion.within fusion.sizes
     (subst (λ (l : List ℕ). PassesOn (round_rates_on graph unfused.last) none_fired l
     unfused.greatest channel) firings_are high)
 

@@ -22,27 +22,27 @@ use Rattle.strc_graph.proofs.Idle.{idle_port}
 use Rattle.strc_balance.specs.Balance.{count_at}
 use Rattle.strc_startup.specs.Rates.{rates_of}
 use Rattle.strc_startup.specs.declared.channel_rates.ChannelRates.{ChannelRates}
-use Rattle.strc_order.specs.Firings.{none_fired}
-use Rattle.strc_order.specs.Order.{IsOrder}
-use Rattle.strc_order.specs.RoundRates.{pops_in_round}
-use Rattle.strc_order.specs.Schedules.{ScheduleParts}
-use Rattle.strc_order.specs.Sizing.{HasFills, all_rates_on}
-use Rattle.strc_order.proofs.GoingOn.{orders_go_on}
-use Rattle.strc_order.proofs.RoundRates.{round_rates_are_rates}
+use Rattle.strc_schedule.specs.Firings.{none_fired}
+use Rattle.strc_schedule.specs.Order.{IsOrder}
+use Rattle.strc_schedule.specs.RoundRates.{pops_in_round}
+use Rattle.strc_schedule.specs.Schedules.{ScheduleParts}
+use Rattle.strc_schedule.specs.Sizing.{HasFills, all_rates_on}
+use Rattle.strc_schedule.proofs.GoingOn.{orders_go_on}
+use Rattle.strc_schedule.proofs.RoundRates.{round_rates_are_rates}
 use Rattle.strc_admissible.specs.Laws.{round_order}
 use Rattle.strc_admissible.specs.Planned.{IsPlanned, AreKnown}
 use Rattle.strc_admissible.proofs.Rounds.{past_prework, round_nodes}
-use Rattle.strc_rounds.specs.Blocks.{Block, old_order, new_order}
-use Rattle.strc_rounds.specs.FusedUnits.{firings_of}
-use Rattle.strc_rounds.specs.PieceBlocks.{blocks_of}
-use Rattle.strc_rounds.specs.Pieces.{Piece}
-use Rattle.strc_rounds.specs.Split.{Parts}
-use Rattle.strc_rounds.specs.SplitOrder.{IsSplitByCounts}
-use Rattle.strc_rounds.proofs.PieceBlocks.{blocks_are, before_same, after_same}
-use Rattle.strc_rounds.proofs.SplitOrder.{split_is_order}
+use Rattle.strc_dataflow.specs.Blocks.{Block, old_order, new_order}
+use Rattle.strc_dataflow.specs.FusedUnits.{firings_of}
+use Rattle.strc_dataflow.specs.PieceBlocks.{blocks_of}
+use Rattle.strc_dataflow.specs.Pieces.{Piece}
+use Rattle.strc_dataflow.specs.Split.{Parts}
+use Rattle.strc_dataflow.specs.SplitOrder.{IsSplitByCounts}
+use Rattle.strc_dataflow.proofs.PieceBlocks.{blocks_are, before_same, after_same}
+use Rattle.strc_dataflow.proofs.SplitOrder.{split_is_order}
 use Rattle.strc_fuse.specs.Units.{round_units}
 use Rattle.strc_fuse.proofs.Counting.{firings_same}
-use Rattle.strc_fused.proofs.Planned.{no_copies}
+use Rattle.strc_fuse.proofs.Planned.{no_copies}
 use Rattle.strc_fiss.specs.Laws.{AreOwn, pieces_of}
 use Rattle.strc_fiss.specs.Numbers.{is_dealt, parts_after}
 use Rattle.strc_fiss.specs.Splitting.{code_at, split_graph}

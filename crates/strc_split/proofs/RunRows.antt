@@ -9,8 +9,8 @@ use Rattle.strc_dataflow.specs.Answer.{words_of}
 use Rattle.strc_dataflow.specs.Queues.{fifo_then, added, holds, fronts, moved, fifo_after, fifo_if}
 use Rattle.strc_dataflow.specs.Queues.{fifo_fire, fifo_go, fifo_at_first, fifo_round_outcome}
 use Rattle.strc_dataflow.specs.Queues.{fifo_rounds, fifo_startup_outcome, fifo_run}
-use Rattle.strc_dealing.specs.DealingRow.{written}
-use Rattle.strc_rounds.specs.Starting.{run_dealt, queues_dealt, state_dealt}
+use Rattle.strc_admissible.specs.DealingRow.{written}
+use Rattle.strc_dataflow.specs.Starting.{run_dealt, queues_dealt, state_dealt}
 use Rattle.strc_split.specs.RunRows.{run_before, rounds_after, run_after, fault_of, RunRow}
 
 pub run_row : RunRow

@@ -19,26 +19,26 @@ use Rattle.strc_graph.specs.FlatGraphs.{IsProgram}
 use Rattle.strc_graph.specs.Meaning.{node_meaning}
 use Rattle.strc_balance.specs.Balance.{count_at}
 use Rattle.strc_startup.specs.Rates.{rates_of}
-use Rattle.strc_order.specs.Order.{firing_count, IsOrder}
-use Rattle.strc_order.specs.Schedules.{ScheduleParts}
+use Rattle.strc_schedule.specs.Order.{firing_count, IsOrder}
+use Rattle.strc_schedule.specs.Schedules.{ScheduleParts}
 use Rattle.strc_admissible.specs.Fits.{Queues}
 use Rattle.strc_admissible.specs.Laws.{startup_order, round_order, counts_at}
 use Rattle.strc_admissible.specs.Planned.{IsPlanned, AreKnown, items_read}
 use Rattle.strc_admissible.proofs.Keeping.{nodes_keep_rates, nodes_take_within}
 use Rattle.strc_admissible.proofs.Orders.{counted_is}
 use Rattle.strc_admissible.proofs.Rounds.{startup_nodes}
-use Rattle.strc_rounds.specs.Blocks.{Block, old_order, new_order}
-use Rattle.strc_rounds.specs.Counted.{IsCounted}
-use Rattle.strc_rounds.specs.FusedUnits.{RoundUnit, firings_of}
-use Rattle.strc_rounds.specs.PieceBlocks.{blocks_of}
-use Rattle.strc_rounds.specs.Pieces.{Piece, ArePieces}
-use Rattle.strc_rounds.specs.Runs.{IsSameOutcome}
-use Rattle.strc_rounds.specs.Split.{Parts, IsSplitGraph, Agree}
-use Rattle.strc_rounds.proofs.Counted.{counted_first, counted_after}
-use Rattle.strc_rounds.proofs.Numbers.{starts_agree}
-use Rattle.strc_rounds.proofs.PieceBlocks.{blocks_are, before_same, after_same}
-use Rattle.strc_rounds.proofs.Runs.{fission_runs}
-use Rattle.strc_rounds.proofs.Still.{stays_still}
+use Rattle.strc_dataflow.specs.Blocks.{Block, old_order, new_order}
+use Rattle.strc_dataflow.specs.Counted.{IsCounted}
+use Rattle.strc_dataflow.specs.FusedUnits.{RoundUnit, firings_of}
+use Rattle.strc_dataflow.specs.PieceBlocks.{blocks_of}
+use Rattle.strc_dataflow.specs.Pieces.{Piece, ArePieces}
+use Rattle.strc_dataflow.specs.Runs.{IsSameOutcome}
+use Rattle.strc_dataflow.specs.Split.{Parts, IsSplitGraph, Agree}
+use Rattle.strc_dataflow.proofs.Counted.{counted_first, counted_after}
+use Rattle.strc_dataflow.proofs.Numbers.{starts_agree}
+use Rattle.strc_dataflow.proofs.PieceBlocks.{blocks_are, before_same, after_same}
+use Rattle.strc_dataflow.proofs.RoundsRuns.{fission_runs}
+use Rattle.strc_dataflow.proofs.Still.{stays_still}
 use Rattle.strc_fuse.specs.Units.{round_units}
 use Rattle.strc_fuse.proofs.Counting.{firings_same}
 use Rattle.strc_fiss.specs.Laws.{AreOwn, pieces_of}

@@ -13,12 +13,12 @@ use Rattle.strc_graph.specs.Graphs.{input_ports, source_in, source_of}
 use Rattle.strc_graph.specs.Rates.{window_at, pushes_at, at_ports}
 use Rattle.strc_graph.specs.Rates.{rate_at_0}
 use Rattle.strc_graph.specs.declared.graph.Fission.{Fission}
-use Rattle.strc_order.specs.RoundRates.{pops_in_round}
-use Rattle.strc_rounds.specs.Split.{Parts}
-use Rattle.strc_rounds.specs.SplitOrder.{IsSplitByCounts, HaveSplitRates, window_of, pop_of}
-use Rattle.strc_rounds.specs.SplitOrder.{push_of}
-use Rattle.strc_rounds.proofs.Numbers as numbers
-use Rattle.strc_dealing.specs.Dealing.{share_of}
+use Rattle.strc_schedule.specs.RoundRates.{pops_in_round}
+use Rattle.strc_dataflow.specs.Split.{Parts}
+use Rattle.strc_dataflow.specs.SplitOrder.{IsSplitByCounts, HaveSplitRates, window_of, pop_of}
+use Rattle.strc_dataflow.specs.SplitOrder.{push_of}
+use Rattle.strc_dataflow.proofs.Numbers as numbers
+use Rattle.strc_admissible.specs.Dealing.{share_of}
 use Rattle.strc_fiss.specs.Numbers.{is_dealt, base, parts_after}
 use Rattle.strc_fiss.specs.Splitting.{code_at, split_graph}
 use Rattle.strc_fiss.specs.Splitting.{renamed_channel}

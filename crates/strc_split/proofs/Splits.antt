@@ -11,7 +11,7 @@ use Rattle.strc_graph.specs.Graphs.{Channel, Graph, NodeCode, IsGraph, JoinsPort
 use Rattle.strc_graph.specs.Graphs.{source_in, reads_input, output_ports, Joiner, Filter, Identity}
 use Rattle.strc_graph.specs.Graphs.{FileReader, FileWriter, Splitter, Scatter, Copy, Gather}
 use Rattle.strc_graph.specs.declared.graph.Fission.{Fission}
-use Rattle.strc_rounds.specs.Split.{renamed}
+use Rattle.strc_dataflow.specs.Split.{renamed}
 use Rattle.strc_fiss.specs.Numbers.{is_dealt, base, parts_after}
 use Rattle.strc_fiss.specs.Splitting.{part_of, code_at, new_code, split_graph}
 use Rattle.strc_fiss.specs.Splitting.{renamed_channel}

@@ -21,12 +21,12 @@ use Rattle.strc_graph.specs.Meaning.{node_fields, node_fired}
 use Rattle.strc_graph.specs.Rates.{window_at, pushes_at}
 use Rattle.strc_startup.specs.Startup.{supply}
 use Rattle.strc_startup.specs.declared.channel_rates.ChannelRates.{ChannelRates}
-use Rattle.strc_order.specs.Firings.{Firings, fired, reach, HasWindow, FindsWindows}
-use Rattle.strc_order.specs.Order.{IsOrder}
-use Rattle.strc_order.specs.RoundRates.{pops_in_round}
-use Rattle.strc_order.specs.Sizing.{rates_on}
-use Rattle.strc_order.proofs.Continuing.{supply_by_work}
-use Rattle.strc_order.proofs.FiringCounts.{turns_same}
+use Rattle.strc_schedule.specs.Firings.{Firings, fired, reach, HasWindow, FindsWindows}
+use Rattle.strc_schedule.specs.Order.{IsOrder}
+use Rattle.strc_schedule.specs.RoundRates.{pops_in_round}
+use Rattle.strc_schedule.specs.Sizing.{rates_on}
+use Rattle.strc_schedule.proofs.Continuing.{supply_by_work}
+use Rattle.strc_schedule.proofs.FiringCounts.{turns_same}
 use Rattle.strc_admissible.proofs.Orders.{AreNodes}
 use Rattle.strc_fiss.proofs.Each.{Each, each_all, all_each, map_each, each_map}
 use Rattle.strc_fiss.proofs.Shares.{there_by}

@@ -17,7 +17,7 @@ use Rattle.strc_graph.specs.Carriers.{carries_in, JoinsCarriers}
 use Rattle.strc_graph.specs.Graphs.{NodeCode, Graph, Channel}
 use Rattle.strc_graph.specs.FlatGraphs.{IsProgram}
 use Rattle.strc_graph.specs.Meaning.{node_meaning, ports_in}
-use Rattle.strc_order.specs.Schedules.{ScheduleParts}
+use Rattle.strc_schedule.specs.Schedules.{ScheduleParts}
 use Rattle.strc_admissible.specs.Planned.{IsPlanned}
 use Rattle.strc_admissible.proofs.Keeping.{nodes_take_within}
 use Rattle.strc_fiss.proofs.Each.{all_each, each_more}

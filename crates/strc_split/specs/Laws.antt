@@ -2,10 +2,10 @@
 use Rattle.std.specs.Prelude.{ℕ, List}
 use Rattle.strc_graph.specs.Graphs.{NodeCode, Graph, IsGraph}
 use Rattle.strc_graph.specs.Meaning.{node_meaning}
-use Rattle.strc_order.specs.Schedules.{ScheduleParts}
+use Rattle.strc_schedule.specs.Schedules.{ScheduleParts}
 use Rattle.strc_admissible.specs.Planned.{IsPlanned, AreKnown}
-use Rattle.strc_rounds.specs.FusedUnits.{firings_of}
-use Rattle.strc_rounds.specs.Split.{IsSplitGraph}
+use Rattle.strc_dataflow.specs.FusedUnits.{firings_of}
+use Rattle.strc_dataflow.specs.Split.{IsSplitGraph}
 use Rattle.strc_fuse.specs.Units.{round_units}
 use Rattle.strc_fiss.specs.Numbers.{parts_after}
 use Rattle.strc_fiss.specs.Splitting.{split_graph}

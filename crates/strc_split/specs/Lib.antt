@@ -12,3 +12,7 @@ pub mod Runs
 pub mod Sources
 pub mod Trees
 pub mod Refusals
+pub mod Codes
+pub mod Fused
+pub mod SplitStagesRounds
+pub mod Channels

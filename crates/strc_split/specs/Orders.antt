@@ -3,10 +3,10 @@ use Rattle.std.specs.Prelude.{ℕ, List}
 use Rattle.strc_dataflow.specs.Streams as trees
 use Rattle.strc_graph.specs.Graphs.{NodeCode, Graph, IsGraph}
 use Rattle.strc_graph.specs.FlatGraphs.{IsProgram}
-use Rattle.strc_order.specs.Firings.{none_fired}
-use Rattle.strc_order.specs.Order.{IsOrder}
-use Rattle.strc_order.specs.Schedules.{ScheduleParts}
-use Rattle.strc_order.specs.Sizing.{round_rates_on}
+use Rattle.strc_schedule.specs.Firings.{none_fired}
+use Rattle.strc_schedule.specs.Order.{IsOrder}
+use Rattle.strc_schedule.specs.Schedules.{ScheduleParts}
+use Rattle.strc_schedule.specs.Sizing.{round_rates_on}
 use Rattle.strc_admissible.specs.Planned.{IsPlanned, AreKnown}
 use Rattle.strc_fuse.specs.Units.{round_units}
 use Rattle.strc_fiss.specs.Laws.{AreOwn}

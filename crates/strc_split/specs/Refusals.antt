@@ -4,8 +4,8 @@ use Rattle.std.specs.Prelude.{ℕ, ◌<◌, List, length}
 use Rattle.strc_graph.specs.Graphs.{Graph}
 use Rattle.strc_graph.specs.NodeView.{graph_view}
 use Rattle.strc_startup.specs.Rates.{rates_of}
-use Rattle.strc_order.specs.Firings.{Firings}
-use Rattle.strc_order.specs.Schedules.{IsSchedule, ScheduleParts}
+use Rattle.strc_schedule.specs.Firings.{Firings}
+use Rattle.strc_schedule.specs.Schedules.{IsSchedule, ScheduleParts}
 use Rattle.strc_fuse.specs.Fusion.{FusedPass}
 use Rattle.strc_fiss.specs.Fissions.{IsFission, IsTransformed, SplitPasses}
 use Rattle.strc_fiss.specs.Numbers.{node_limit, base}

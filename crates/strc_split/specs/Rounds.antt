@@ -7,8 +7,8 @@ use Rattle.strc_stream.specs.Types.{IsWellTyped}
 use Rattle.strc_stream.specs.Flattening.{tree_of, outer_loops}
 use Rattle.strc_balance.specs.Balance.{count_at}
 use Rattle.strc_startup.specs.Rates.{rates_of}
-use Rattle.strc_order.specs.Firings.{Firings}
-use Rattle.strc_order.specs.Schedules.{ScheduleParts, IsSchedule}
+use Rattle.strc_schedule.specs.Firings.{Firings}
+use Rattle.strc_schedule.specs.Schedules.{ScheduleParts, IsSchedule}
 use Rattle.strc_fuse.specs.Units.{round_units}
 use Rattle.strc_fiss.specs.Laws.{AreOwn}
 use Rattle.strc_fiss.specs.Ways.{fission_of}

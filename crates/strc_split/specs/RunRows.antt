@@ -20,10 +20,10 @@ use Rattle.strc_semantics.specs.declared.word.Word.{Word}
 use Rattle.strc_graph.specs.Graphs.{NodeCode, Graph, Filter, FileReader, FileWriter}
 use Rattle.strc_graph.specs.Meaning.{node_meaning, line_of}
 use Rattle.strc_graph.specs.declared.graph.Fission.{Fission}
-use Rattle.strc_dealing.specs.DealingRow as dealing
-use Rattle.strc_rounds.specs.FusedUnits.{RoundUnit, firings_of}
-use Rattle.strc_rounds.specs.Pieces.{unit_of}
-use Rattle.strc_rounds.specs.Starting.{state_dealt}
+use Rattle.strc_admissible.specs.DealingRow as dealing
+use Rattle.strc_dataflow.specs.FusedUnits.{RoundUnit, firings_of}
+use Rattle.strc_dataflow.specs.Pieces.{unit_of}
+use Rattle.strc_dataflow.specs.Starting.{state_dealt}
 use Rattle.strc_fiss.specs.Numbers.{parts_after}
 use Rattle.strc_fiss.specs.Rows as fission
 use Rattle.strc_fiss.specs.Splitting.{split_graph}

@@ -9,14 +9,14 @@ use Rattle.strc_dataflow.specs.Streams as trees
 use Rattle.strc_graph.specs.Graphs.{NodeCode, Graph, IsGraph}
 use Rattle.strc_graph.specs.FlatGraphs.{IsProgram}
 use Rattle.strc_graph.specs.Meaning.{node_meaning}
-use Rattle.strc_order.specs.Order.{firing_count}
-use Rattle.strc_order.specs.Schedules.{ScheduleParts}
+use Rattle.strc_schedule.specs.Order.{firing_count}
+use Rattle.strc_schedule.specs.Schedules.{ScheduleParts}
 use Rattle.strc_admissible.specs.Fits.{Queues}
 use Rattle.strc_admissible.specs.Laws.{startup_order, round_order, counts_at}
 use Rattle.strc_admissible.specs.Planned.{IsPlanned, AreKnown, items_read}
-use Rattle.strc_rounds.specs.Runs.{IsSameOutcome}
-use Rattle.strc_rounds.specs.Split.{Parts}
-use Rattle.strc_rounds.specs.Starting.{queues_dealt}
+use Rattle.strc_dataflow.specs.Runs.{IsSameOutcome}
+use Rattle.strc_dataflow.specs.Split.{Parts}
+use Rattle.strc_dataflow.specs.Starting.{queues_dealt}
 use Rattle.strc_fuse.specs.Units.{round_units}
 use Rattle.strc_fiss.specs.Laws.{AreOwn}
 use Rattle.strc_fiss.specs.Numbers.{is_dealt, parts_after}

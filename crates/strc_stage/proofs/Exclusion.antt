@@ -8,13 +8,13 @@ use Rattle.strc_graph.specs.Graphs.{Graph}
 use Rattle.strc_balance.specs.Balance.{count_at}
 use Rattle.strc_startup.specs.Rates.{rates_of}
 use Rattle.strc_startup.specs.declared.channel_rates.ChannelRates.{ChannelRates}
-use Rattle.strc_order.specs.declared.unit as units
-use Rattle.strc_order.specs.Buffers.{peak_fill, buffer_size, size_limit}
-use Rattle.strc_order.specs.Firings.{Firings, none_fired}
-use Rattle.strc_order.specs.Greedy.{firings_of, IsGreedyOrder}
-use Rattle.strc_order.specs.Laws.{GreedyIsAnOrder, OneGreedyOrder}
-use Rattle.strc_order.specs.Order.{HasOrder}
-use Rattle.strc_order.specs.Schedules.{ScheduleParts, IsSchedule, PassesLimit}
+use Rattle.strc_schedule.specs.declared.unit as units
+use Rattle.strc_schedule.specs.Buffers.{peak_fill, buffer_size, size_limit}
+use Rattle.strc_schedule.specs.Firings.{Firings, none_fired}
+use Rattle.strc_schedule.specs.Greedy.{firings_of, IsGreedyOrder}
+use Rattle.strc_schedule.specs.Laws.{GreedyIsAnOrder, OneGreedyOrder}
+use Rattle.strc_schedule.specs.Order.{HasOrder}
+use Rattle.strc_schedule.specs.Schedules.{ScheduleParts, IsSchedule, PassesLimit}
 use Rattle.strc_stage.specs.Plans.{HasSchedule, IsDeadlocked}
 use Rattle.strc_stage.specs.Laws.{OneStartup, ScheduledOrRefused}
 

@@ -4,8 +4,8 @@ use Rattle.std.proofs.lemmas.List.{length-map}
 use Rattle.strc_graph.specs.NodeView.{GraphParts, channel_view, graph_view, node_view}
 use Rattle.strc_balance.specs.Balance.{count_at}
 use Rattle.strc_startup.specs.Rates.{first_count, rates_of, rates_of_channel}
-use Rattle.strc_order.specs.Buffers.{buffer_size}
-use Rattle.strc_order.specs.Schedules.{ScheduleParts}
+use Rattle.strc_schedule.specs.Buffers.{buffer_size}
+use Rattle.strc_schedule.specs.Schedules.{ScheduleParts}
 use Rattle.strc_fiss.specs.Splits.{SplitParts}
 use Rattle.strc_stage.specs.Plans.{HasRound, HasSchedule, HasStartup, IsTransformation}
 

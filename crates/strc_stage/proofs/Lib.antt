@@ -1,3 +1,14 @@
 pub mod Exclusion
 pub mod Lengths
 pub mod Transformed
+pub mod GroupBounds
+pub mod Forward
+pub mod Segments
+pub mod FusedSplits
+pub mod Between
+pub mod Ranges
+pub mod Beginnings
+pub mod StageUnits
+pub mod Row
+pub mod Shares
+pub mod EvenShares

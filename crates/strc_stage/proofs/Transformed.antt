@@ -4,8 +4,8 @@ use Rattle.std.proofs.lemmas.List.{length-map}
 use Rattle.strc_graph.specs.Graphs.{Graph}
 use Rattle.strc_graph.specs.NodeView.{GraphParts, graph_view, node_view}
 use Rattle.strc_balance.specs.Balance.{count_at}
-use Rattle.strc_order.specs.Peaks.{HasNodes}
-use Rattle.strc_order.specs.Schedules.{ScheduleParts}
+use Rattle.strc_schedule.specs.Peaks.{HasNodes}
+use Rattle.strc_schedule.specs.Schedules.{ScheduleParts}
 use Rattle.strc_fuse.specs.Units.{is_free}
 use Rattle.strc_fuse.proofs.Lawful.{schedules_can_be_fused}
 use Rattle.strc_fuse.proofs.Marks.{fused_nodes}

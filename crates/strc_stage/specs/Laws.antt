@@ -2,7 +2,7 @@
 use Rattle.std.specs.Prelude.{◌≡◌, ℕ, Bool, List}
 use Rattle.strc_graph.specs.Graphs.{Graph}
 use Rattle.strc_balance.specs.Balance.{count_at}
-use Rattle.strc_order.specs.Schedules.{ScheduleParts}
+use Rattle.strc_schedule.specs.Schedules.{ScheduleParts}
 use Rattle.strc_stage.specs.Plans.{HasStartup, HasSchedule, IsDeadlocked, Overflows}
 
 -- a graph has one list of start-up counts

@@ -14,10 +14,10 @@ use Rattle.strc_balance.specs.Rates.{equations_of, size_of}
 use Rattle.strc_startup.specs.Rates.{first_counts, rates_of}
 use Rattle.strc_startup.specs.Startup.{IsPrimed}
 use Rattle.strc_startup.specs.Startup as start
-use Rattle.strc_order.specs.Buffers.{size_limit}
-use Rattle.strc_order.specs.Firings.{none_fired}
-use Rattle.strc_order.specs.Order.{HasOrder}
-use Rattle.strc_order.specs.Schedules.{ScheduleParts, IsSchedule, PassesLimit}
+use Rattle.strc_schedule.specs.Buffers.{size_limit}
+use Rattle.strc_schedule.specs.Firings.{none_fired}
+use Rattle.strc_schedule.specs.Order.{HasOrder}
+use Rattle.strc_schedule.specs.Schedules.{ScheduleParts, IsSchedule, PassesLimit}
 use Rattle.strc_admissible.specs.Planned.{IsPlanned}
 use Rattle.strc_fuse.specs.Fusion.{FusedPass}
 use Rattle.strc_fiss.specs.Fissions.{IsFission, IsTransformed, SplitPasses}

@@ -2,7 +2,7 @@
 
 ghost use Rattle.strc_stage.specs.Laws.{OneStartup, ScheduledOrRefused};
 
-use strc_order::laws::{greedy_is_an_order, one_greedy_order};
+use strc_schedule::laws::{greedy_is_an_order, one_greedy_order};
 
 /// A graph has one list of start-up counts.
 pub fn one_startup()

@@ -1,12 +1,16 @@
-// Takes a flat graph, how often its nodes fire before the first round and in each round, the
-// schedule of these firings, and both after fission and fusion.
-// Gives a plan, which keeps them together.
-// The theorem to rely on: a plan's graph can be run, its counts are the least ones, and its
-// schedule is that of these counts, within the limits.
-// Stands on strc_graph, strc_balance, strc_startup, strc_order and strc_fiss, whose results a plan
-// keeps, on strc_stream, whose streams have flat graphs, and on strc_admissible, which says what
-// such a schedule is worth.
+// Takes the parts of a plan: a graph, its counts and its schedule, before and after fission and
+// fusion.
+// Gives the `Plan` that can be run, and the bounds of its stages: groups of nodes shared evenly
+// among workers (`cut_laws`, `bounds`).
+// The theorems to rely on: a plan's invariant, `IsPlan`; `bounds_are_listed` and
+// `channels_go_forward`: the groups are all nodes, and no channel goes back from one to an earlier
+// one.
+// Stands on strc_fiss and strc_fuse, whose transformed schedules a plan has, on strc_admissible,
+// which says what is planned, and on strc_stream, of whose wires groups are.
 #![tactic(auto)]
 
+pub mod bounds;
+pub mod cut_laws;
 pub mod laws;
+mod parting;
 pub mod plan;

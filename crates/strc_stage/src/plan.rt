@@ -3,7 +3,7 @@
 ghost use Rattle.std.specs.Prelude.{◌≡◌, All, IfOk, length, slice_get};
 ghost use Rattle.strc_graph.specs.Graphs.{IsGraph};
 ghost use Rattle.strc_graph.specs.NodeView.{graph_view};
-ghost use Rattle.strc_order.specs.Peaks.{HasNodes};
+ghost use Rattle.strc_schedule.specs.Peaks.{HasNodes};
 ghost use Rattle.strc_admissible.specs.Planned.{IsPlanned};
 ghost use Rattle.strc_stage.specs.Plans.{HasRound, HasSchedule, HasStartup, IsPlan, IsWhole};
 ghost use Rattle.strc_stage.specs.Plans.{graph_of, transformed_of};
@@ -15,7 +15,7 @@ use strc_balance::counts::Counts;
 use strc_base::memory::NoMemory;
 use strc_fiss::split::{Origin, Split};
 use strc_graph::graph::Graph;
-use strc_order::parts::Schedule;
+use strc_schedule::parts::Schedule;
 
 /// A flat graph, how often each of its nodes fires before the first round and in each round, and
 /// the schedule of these firings (Lee and Messerschmitt 1987: a periodic admissible sequential

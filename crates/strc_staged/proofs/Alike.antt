@@ -18,13 +18,13 @@ use Rattle.strc_core.specs.States.{Start, Core, IsState}
 use Rattle.strc_core.proofs.Endings.{all_ended}
 use Rattle.strc_core.proofs.Gathering.{gathers_all}
 use Rattle.strc_core.proofs.Stages.{gathers_taken}
-use Rattle.strc_parcel.specs.declared.stop.Stop.{Stop}
-use Rattle.strc_parcel.specs.declared.stop.Stop.TheVariants as stop
-use Rattle.strc_parcel.specs.Parcels.{Load, ParcelView}
+use Rattle.strc_core.specs.declared.stop.Stop.{Stop}
+use Rattle.strc_core.specs.declared.stop.Stop.TheVariants as stop
+use Rattle.strc_core.specs.Parcels.{Load, ParcelView}
 use Rattle.strc_admissible.specs.Machine.{MachineView, words_at}
 use Rattle.strc_admissible.specs.Simulation.{Simulates}
-use Rattle.strc_restart.specs.Chains.{faults_on}
-use Rattle.strc_restart.specs.Restart.{numbered_on}
+use Rattle.strc_dataflow.specs.Chains.{faults_on}
+use Rattle.strc_dataflow.specs.Restart.{numbered_on}
 use Rattle.strc_staged.specs.Beginnings.{IsBeginning}
 use Rattle.strc_staged.specs.Laws.{TellsOutcome, StagesRunAlike}
 use Rattle.strc_staged.specs.Steps.{StageState, Gathered, stage_work}

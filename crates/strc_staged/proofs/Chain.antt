@@ -20,20 +20,20 @@ use Rattle.strc_core.specs.States.{Start, Core, IsState, AreFresh}
 use Rattle.strc_core.proofs.Joining.{state_parts}
 use Rattle.strc_core.proofs.Stages.{runs_taken}
 use Rattle.strc_core.proofs.Taking.{each_within_rounds}
-use Rattle.strc_parcel.specs.declared.stop.Stop.{Stop}
-use Rattle.strc_parcel.specs.Parcels.{Load, ParcelView}
+use Rattle.strc_core.specs.declared.stop.Stop.{Stop}
+use Rattle.strc_core.specs.Parcels.{Load, ParcelView}
 use Rattle.strc_admissible.specs.Fits.{Queues}
 use Rattle.strc_admissible.specs.Machine.{MachineView}
 use Rattle.strc_admissible.specs.Simulation.{Simulates}
-use Rattle.strc_restart.specs.Chains.{first_from, faults_on}
-use Rattle.strc_restart.specs.Restart.{AreSame}
-use Rattle.strc_restart.proofs.Chains.{restarted_chains}
-use Rattle.strc_restart.proofs.Restart.{same_at_first}
-use Rattle.strc_staging.specs.Parcels.{IsWorking}
-use Rattle.strc_staging.specs.Workers.{AreParcels, IsChain, collects}
-use Rattle.strc_staging.proofs.Chains.{chain_gives_answer, parcels_front}
-use Rattle.strc_staging.proofs.Collecting.{startup_gives_stages}
-use Rattle.strc_staging.proofs.Segments.{in_is}
+use Rattle.strc_dataflow.specs.Chains.{first_from, faults_on}
+use Rattle.strc_dataflow.specs.Restart.{AreSame}
+use Rattle.strc_dataflow.proofs.RestartChains.{restarted_chains}
+use Rattle.strc_dataflow.proofs.Restart.{same_at_first}
+use Rattle.strc_dataflow.specs.Parcels.{IsWorking}
+use Rattle.strc_dataflow.specs.Workers.{AreParcels, IsChain, collects}
+use Rattle.strc_dataflow.proofs.Chains.{chain_gives_answer, parcels_front}
+use Rattle.strc_dataflow.proofs.Collecting.{startup_gives_stages}
+use Rattle.strc_dataflow.proofs.Segments.{in_is}
 use Rattle.strc_staged.specs.Beginnings.{IsStageOf, IsBeginning, IsFree}
 use Rattle.strc_staged.specs.Runnings.{resumed}
 use Rattle.strc_staged.specs.Steps.{StageState, Gathered, stage_work}

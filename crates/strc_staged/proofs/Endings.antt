@@ -8,8 +8,8 @@ use Rattle.strc_dataflow.specs.Answer.{Outcome.StartupFault}
 use Rattle.strc_dataflow.specs.Machine as generic
 use Rattle.strc_graph.specs.Graphs.{NodeCode}
 use Rattle.strc_graph.specs.Tapes.{tape_nodes}
-use Rattle.strc_parcel.specs.declared.stop.Stop.{Stop}
-use Rattle.strc_parcel.specs.declared.stop.Stop.TheVariants as stop
+use Rattle.strc_core.specs.declared.stop.Stop.{Stop}
+use Rattle.strc_core.specs.declared.stop.Stop.TheVariants as stop
 use Rattle.strc_admissible.specs.Machine.{Ending, Ended, FaultedAtFirst, FaultedIn, words_at}
 use Rattle.strc_admissible.specs.RingAnswer.{Tells}
 use Rattle.strc_staged.specs.Laws.{TellsOutcome, TellsEnding, OutcomesTellEndings}

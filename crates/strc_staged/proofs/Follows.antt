@@ -12,18 +12,18 @@ use Rattle.strc_dataflow.specs.Queues.{FifoProgress.FifoStopped}
 use Rattle.strc_core.specs.Actors as actors
 use Rattle.strc_core.specs.Actors.{is_passing, stop_of, next, made, MayStop, Step, or_else}
 use Rattle.strc_core.specs.States.{Runs}
-use Rattle.strc_parcel.specs.declared.stop.Stop.{Stop}
-use Rattle.strc_parcel.specs.declared.stop.Stop.TheVariants as stop
-use Rattle.strc_parcel.specs.Parcels.{Load, ParcelView}
+use Rattle.strc_core.specs.declared.stop.Stop.{Stop}
+use Rattle.strc_core.specs.declared.stop.Stop.TheVariants as stop
+use Rattle.strc_core.specs.Parcels.{Load, ParcelView}
 use Rattle.strc_admissible.specs.Fits.{Queues}
 use Rattle.strc_admissible.specs.Machine as machines
 use Rattle.strc_admissible.specs.Machine.{MachineView}
-use Rattle.strc_restart.specs.Restart.{numbered_on}
-use Rattle.strc_staging.specs.Parcels.{HasMoved, IsWorking}
-use Rattle.strc_staging.specs.Stages.{Parcel, Parcel.Moves, Parcel.Halts, Stage, Stage.Works}
-use Rattle.strc_staging.specs.Stages.{Stage.Halted, Stepped, entered, sent, step}
-use Rattle.strc_staging.specs.Workers.{MayStep, AreSteps, AreParcels}
-use Rattle.strc_staging.proofs.Sent.{StepComes, step_works}
+use Rattle.strc_dataflow.specs.Restart.{numbered_on}
+use Rattle.strc_dataflow.specs.Parcels.{HasMoved, IsWorking}
+use Rattle.strc_dataflow.specs.Stages.{Parcel, Parcel.Moves, Parcel.Halts, Stage, Stage.Works}
+use Rattle.strc_dataflow.specs.Stages.{Stage.Halted, Stepped, entered, sent, step}
+use Rattle.strc_dataflow.specs.Workers.{MayStep, AreSteps, AreParcels}
+use Rattle.strc_dataflow.proofs.Sent.{StepComes, step_works}
 use Rattle.strc_staged.specs.Steps.{StageState, stage_work, stage_run, due_stop_of, stop_of_run}
 use Rattle.strc_staged.specs.Steps.{state_of_step, load_of_step, with_machine, machine_after}
 use Rattle.strc_staged.specs.Steps.{load_after}

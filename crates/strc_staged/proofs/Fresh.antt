@@ -8,13 +8,13 @@ use Rattle.std.proofs.lemmas.List.{get_or-replicate, get_or_past, length-replica
 use mathlib.Core.Logic.{inl, inr, ◌⊎◌}
 use Rattle.strc_core.specs.Actors.{Collector, Collects, returned, collected}
 use Rattle.strc_core.specs.States.{Runs}
-use Rattle.strc_parcel.specs.declared.stop.Stop.{Stop}
-use Rattle.strc_parcel.specs.declared.stop.Stop.TheVariants as stop
-use Rattle.strc_parcel.specs.Parcels as parcels
-use Rattle.strc_parcel.specs.Parcels.{Load, ParcelView, empty_load}
+use Rattle.strc_core.specs.declared.stop.Stop.{Stop}
+use Rattle.strc_core.specs.declared.stop.Stop.TheVariants as stop
+use Rattle.strc_core.specs.Parcels as parcels
+use Rattle.strc_core.specs.Parcels.{Load, ParcelView, empty_load}
 use Rattle.strc_admissible.specs.Machine.{MachineView}
-use Rattle.strc_staging.specs.Stages.{Parcel.Moves, Parcel.Halts}
-use Rattle.strc_staging.specs.Workers.{AreFresh}
+use Rattle.strc_dataflow.specs.Stages.{Parcel.Moves, Parcel.Halts}
+use Rattle.strc_dataflow.specs.Workers.{AreFresh}
 use Rattle.strc_staged.specs.Beginnings.{IsFree}
 use Rattle.strc_staged.specs.Steps.{Gathered, stage_work}
 use Rattle.strc_staged.proofs.Follows.{Generic, Related, Relates}

@@ -19,20 +19,20 @@ use Rattle.strc_graph.specs.Graphs.{NodeCode, FileReader, Channel}
 use Rattle.strc_graph.specs.Meaning.{node_meaning}
 use Rattle.strc_graph.specs.Rates.{pops_at}
 use Rattle.strc_graph.specs.Tapes.{tape_nodes}
-use Rattle.strc_parcel.specs.Parcels.{Load}
+use Rattle.strc_core.specs.Parcels.{Load}
 use Rattle.strc_admissible.specs.Fits.{Queues}
 use Rattle.strc_admissible.specs.Machine.{MachineView}
 use Rattle.strc_admissible.specs.Rings.{ring_at, extended}
 use Rattle.strc_admissible.proofs.Changes.{extended_all, extended_none}
-use Rattle.strc_restart.specs.Restart.{restarted_meaning, restarted, taken_in}
-use Rattle.strc_staging.specs.Staging.{joined, in_stage, counts, after}
-use Rattle.strc_staging.specs.Stages.{quiet, entered}
-use Rattle.strc_staging.specs.Parcels.{begun_at, HasMoved, IsWorking}
-use Rattle.strc_staging.proofs.Begun.{begun_late}
-use Rattle.strc_staging.proofs.Cut.{cut_out}
-use Rattle.strc_staging.proofs.Fits.{step_fits}
-use Rattle.strc_staging.proofs.Segments.{in_is, is_in, not_before, joined_count}
-use Rattle.strc_staging.specs.Staging.{before}
+use Rattle.strc_dataflow.specs.Restart.{restarted_meaning, restarted, taken_in}
+use Rattle.strc_dataflow.specs.Staging.{joined, in_stage, counts, after}
+use Rattle.strc_dataflow.specs.Stages.{quiet, entered}
+use Rattle.strc_dataflow.specs.Parcels.{begun_at, HasMoved, IsWorking}
+use Rattle.strc_dataflow.proofs.Begun.{begun_late}
+use Rattle.strc_dataflow.proofs.Cut.{cut_out}
+use Rattle.strc_dataflow.proofs.Fits.{step_fits}
+use Rattle.strc_dataflow.proofs.Segments.{in_is, is_in, not_before, joined_count}
+use Rattle.strc_dataflow.specs.Staging.{before}
 use Rattle.strc_dataflow.proofs.WholeRun.{counted-firing_count}
 use Rattle.strc_staged.specs.Steps.{StageState, machine_entered}
 use Rattle.strc_staged.specs.Beginnings.{crosses, entering_at}

@@ -11,9 +11,9 @@ use Rattle.strc_dataflow.specs.Queues.{FifoProgress.FifoStopped, fifo_go}
 use Rattle.strc_graph.specs.Graphs.{NodeCode}
 use Rattle.strc_graph.specs.Meaning.{node_meaning}
 use Rattle.strc_admissible.specs.Fits.{Queues}
-use Rattle.strc_restart.specs.Restart.{restarted_meaning, restarted, numbered_on, AreSame, GoAlike}
-use Rattle.strc_restart.proofs.Restart.{go_alike}
-use Rattle.strc_staging.proofs.Fits.{fifo_same}
+use Rattle.strc_dataflow.specs.Restart.{restarted_meaning, restarted, numbered_on, AreSame, GoAlike}
+use Rattle.strc_dataflow.proofs.Restart.{go_alike}
+use Rattle.strc_dataflow.proofs.Fits.{fifo_same}
 
 module _ (from : Queues) where
   abbrev pub lifted_run : (node : ℕ) → Run (List ℤ) Cause Word → Run (List ℤ) Cause Word

@@ -9,11 +9,11 @@ use Rattle.strc_core.specs.Parts as ring
 use Rattle.strc_core.specs.Parts.{Part, received_by, AreLinked}
 use Rattle.strc_core.specs.States.{Runs}
 use Rattle.strc_core.proofs.Runs.{runs_length}
-use Rattle.strc_parcel.specs.Parcels.{ParcelView}
+use Rattle.strc_core.specs.Parcels.{ParcelView}
 use Rattle.strc_admissible.specs.Fits.{Queues}
-use Rattle.strc_staging.specs.Parcels.{IsWorking}
-use Rattle.strc_staging.specs.Stages.{Stage.Works}
-use Rattle.strc_staging.specs.Workers.{AreSteps, AreParcels}
+use Rattle.strc_dataflow.specs.Parcels.{IsWorking}
+use Rattle.strc_dataflow.specs.Stages.{Stage.Works}
+use Rattle.strc_dataflow.specs.Workers.{AreSteps, AreParcels}
 use Rattle.strc_staged.specs.Steps.{stage_work}
 use Rattle.strc_staged.proofs.Follows.{Worker, Generic, GenericStage, all_made, made_steps}
 use Rattle.strc_staged.proofs.Follows.{made_length, Related, follows}

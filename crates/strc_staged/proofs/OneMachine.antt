@@ -15,8 +15,8 @@ use Rattle.strc_dataflow.specs.Queues.{fifo_round_outcome}
 use Rattle.strc_dataflow.proofs.WholeRun.{counted-firing_count}
 use Rattle.strc_graph.specs.Graphs.{NodeCode, Channel}
 use Rattle.strc_graph.specs.Meaning.{node_meaning}
-use Rattle.strc_order.specs.Order.{firing_count}
-use Rattle.strc_order.proofs.FiringCounts.{firing_count_append}
+use Rattle.strc_schedule.specs.Order.{firing_count}
+use Rattle.strc_schedule.proofs.FiringCounts.{firing_count_append}
 use Rattle.strc_admissible.specs.Fits.{Queues, FitNow, Fit}
 use Rattle.strc_admissible.specs.Machine as machines
 use Rattle.strc_admissible.specs.Machine.{CircuitView, MachineView, after_round, order_run}
@@ -26,10 +26,10 @@ use Rattle.strc_admissible.specs.Simulation.{Simulates, IsAlike}
 use Rattle.strc_admissible.proofs.Orders.{firing_count_is}
 use Rattle.strc_admissible.proofs.OrdersAlike.{orders_go_alike}
 use Rattle.strc_admissible.proofs.Splitting.{fits_from}
-use Rattle.strc_restart.specs.Restart.{Restarted, restarted_meaning, restarted, AreSame, GoAlike}
-use Rattle.strc_restart.proofs.Restart.{go_alike, same_at_first}
-use Rattle.strc_rounds.specs.Counted.{IsCounted}
-use Rattle.strc_rounds.proofs.Counted.{counted_first, counted_after, queue_length}
+use Rattle.strc_dataflow.specs.Restart.{Restarted, restarted_meaning, restarted, AreSame, GoAlike}
+use Rattle.strc_dataflow.proofs.Restart.{go_alike, same_at_first}
+use Rattle.strc_dataflow.specs.Counted.{IsCounted}
+use Rattle.strc_dataflow.proofs.Counted.{counted_first, counted_after, queue_length}
 use Rattle.strc_staged.specs.Laws.{RoundsRunAlike}
 use Rattle.strc_staged.specs.Runnings.{Running, CanGoOn}
 use Rattle.strc_staged.proofs.Ports.{port_inside}

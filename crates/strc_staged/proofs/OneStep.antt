@@ -15,19 +15,19 @@ use Rattle.strc_dataflow.specs.Queues.{FifoProgress, FifoProgress.FifoWent, fifo
 use Rattle.strc_dataflow.specs.Queues.{FifoProgress.FifoStopped}
 use Rattle.strc_dataflow.proofs.WholeRun.{counted-firing_count}
 use Rattle.strc_graph.specs.Graphs.{NodeCode, Channel, gives_words}
-use Rattle.strc_parcel.specs.Parcels as parcels
-use Rattle.strc_parcel.specs.Parcels.{Load, block_at}
+use Rattle.strc_core.specs.Parcels as parcels
+use Rattle.strc_core.specs.Parcels.{Load, block_at}
 use Rattle.strc_admissible.specs.Fits.{Queues}
 use Rattle.strc_admissible.specs.Machine as machines
 use Rattle.strc_admissible.specs.Machine.{MachineView, order_run, words_at}
 use Rattle.strc_admissible.specs.Rings.{Ring, ring_at}
-use Rattle.strc_staging.specs.Cut.{AllIn}
-use Rattle.strc_staging.specs.Parcels.{HasMoved, IsWorking}
-use Rattle.strc_staging.specs.Stages.{entered, sent_blocks, sent_words}
-use Rattle.strc_staging.specs.Staging.{joined, counts}
-use Rattle.strc_staging.proofs.Fits.{step_fits}
-use Rattle.strc_staging.proofs.Orders.{counted_away}
-use Rattle.strc_staging.proofs.Segments.{in_is, is_in, not_in}
+use Rattle.strc_dataflow.specs.Cut.{AllIn}
+use Rattle.strc_dataflow.specs.Parcels.{HasMoved, IsWorking}
+use Rattle.strc_dataflow.specs.Stages.{entered, sent_blocks, sent_words}
+use Rattle.strc_dataflow.specs.Staging.{joined, counts}
+use Rattle.strc_dataflow.proofs.Fits.{step_fits}
+use Rattle.strc_dataflow.proofs.Orders.{counted_away}
+use Rattle.strc_dataflow.proofs.Segments.{in_is, is_in, not_in}
 use Rattle.strc_staged.specs.Steps.{Crossing, TapeOf}
 use Rattle.strc_staged.specs.Steps.{StageState, machine_entered, machine_left, emptied_ring}
 use Rattle.strc_staged.specs.Steps.{load_entered, load_left, load_worded, with_machine}

@@ -21,7 +21,7 @@ use Rattle.strc_admissible.specs.NodeSteps.{HasOwnWindow}
 use Rattle.strc_admissible.specs.Rings.{Ring}
 use Rattle.strc_admissible.specs.Steps.{Step, maybe_step, node_step}
 use Rattle.strc_admissible.specs.Wiring.{ports_at}
-use Rattle.strc_staging.specs.Cut.{AllIn}
+use Rattle.strc_dataflow.specs.Cut.{AllIn}
 use Rattle.strc_staged.specs.Holding.{AgreeAt}
 use Rattle.strc_staged.proofs.OwnSteps.{SimulatesOwn, FitOwn, IsAlikeOwn, fire_alike}
 

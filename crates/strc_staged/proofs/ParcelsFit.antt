@@ -18,14 +18,14 @@ use Rattle.strc_core.specs.States.{Start, Core, IsState, Runs}
 use Rattle.strc_core.proofs.Runs.{runs_length}
 use Rattle.strc_core.proofs.Steps.{stepped, gathers}
 use Rattle.strc_core.proofs.Stopping.{runs_stay_stopped}
-use Rattle.strc_parcel.specs.declared.stop.Stop.{Stop}
-use Rattle.strc_parcel.specs.Parcels.{Load, ParcelView}
+use Rattle.strc_core.specs.declared.stop.Stop.{Stop}
+use Rattle.strc_core.specs.Parcels.{Load, ParcelView}
 use Rattle.strc_admissible.specs.Machine.{MachineView}
 use Rattle.strc_admissible.specs.Simulation.{Simulates}
-use Rattle.strc_staging.specs.Parcels.{HasMoved}
-use Rattle.strc_staging.specs.Stages.{Parcel.Moves, Parcel.Halts}
-use Rattle.strc_staging.specs.Workers.{AreParcels}
-use Rattle.strc_staging.proofs.Fits.{block_at_rate}
+use Rattle.strc_dataflow.specs.Parcels.{HasMoved}
+use Rattle.strc_dataflow.specs.Stages.{Parcel.Moves, Parcel.Halts}
+use Rattle.strc_dataflow.specs.Workers.{AreParcels}
+use Rattle.strc_dataflow.proofs.Fits.{block_at_rate}
 use Rattle.strc_staged.specs.Beginnings.{IsBeginning}
 use Rattle.strc_staged.specs.Blocks.{FitsBefore}
 use Rattle.strc_staged.specs.Laws.{ParcelsFit}

@@ -7,8 +7,8 @@ use Rattle.std.proofs.lemmas.List.{get_or-set_same, get_or-set_other, length-set
 use Rattle.circular_buffer.specs.Buffer.{buffer}
 use Rattle.strc_semantics.specs.declared.word.Word.{Word}
 use Rattle.strc_graph.specs.Graphs.{NodeCode, Channel, gives_words}
-use Rattle.strc_parcel.specs.Parcels as parcels
-use Rattle.strc_parcel.specs.Parcels.{Load, block_at, room_at, with_block, with_words}
+use Rattle.strc_core.specs.Parcels as parcels
+use Rattle.strc_core.specs.Parcels.{Load, block_at, room_at, with_block, with_words}
 use Rattle.strc_admissible.specs.Machine.{words_at}
 use Rattle.strc_admissible.specs.Rings.{Ring, ring_at, items_at, extended, given}
 use Rattle.strc_staged.specs.Steps.{Crossing, TapeOf, rings_entered, load_entered}

@@ -9,9 +9,9 @@ use Rattle.strc_dataflow.specs.Order.{counted, counts_after, supply_of, supply, 
 use Rattle.strc_dataflow.specs.Queues.{Fifo}
 use Rattle.strc_dataflow.proofs.WholeRun.{counted-firing_count}
 use Rattle.strc_graph.specs.Meaning.{node_meaning}
-use Rattle.strc_restart.specs.Restart.{restarted_meaning, restarted, taken_in}
-use Rattle.strc_restart.specs.Rounds.{total_from, RepeatsByRounds, IsBalancedByRounds}
-use Rattle.strc_restart.specs.Schedules.{fired_in}
+use Rattle.strc_dataflow.specs.Restart.{restarted_meaning, restarted, taken_in}
+use Rattle.strc_dataflow.specs.RestartRounds.{total_from, RepeatsByRounds, IsBalancedByRounds}
+use Rattle.strc_dataflow.specs.Schedules.{fired_in}
 use Rattle.strc_staged.specs.Laws.{RoundsHaveRoom}
 use Rattle.strc_staged.proofs.Ports.{port_inside}
 

@@ -10,7 +10,7 @@ use Rattle.strc_core.specs.Driving.{past, step_at, take_from, give_from, core_af
 use Rattle.strc_core.specs.Driving.{after_first, drive_by, drive}
 use Rattle.strc_core.proofs.Driving.{driven_happen}
 use Rattle.strc_core.proofs.Starting.{first_state}
-use Rattle.strc_staging.specs.Ranges.{stage_within}
+use Rattle.strc_dataflow.specs.Ranges.{stage_within}
 use Rattle.strc_staged.specs.Rows.{two_stages, stage_of, TwoStagesRow}
 use Rattle.strc_staged.specs.Steps.{stage_work, stage_run}
 

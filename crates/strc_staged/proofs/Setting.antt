@@ -17,15 +17,15 @@ use Rattle.strc_graph.specs.Meaning.{node_meaning}
 use Rattle.strc_startup.specs.Rates.{push_at}
 use Rattle.strc_admissible.specs.Fits.{Queues}
 use Rattle.strc_admissible.specs.Machine.{CircuitView}
-use Rattle.strc_restart.specs.Restart.{Restarted, restarted_meaning, restarted, taken_in}
-use Rattle.strc_restart.specs.Chains.{staging_from}
-use Rattle.strc_restart.proofs.Chains.{restarted_is_staging}
-use Rattle.strc_staging.specs.Ranges.{stage_within}
-use Rattle.strc_staging.specs.Staging.{Staging, joined, before, in_stage, IsStaging, IsFromUpTo}
-use Rattle.strc_staging.specs.Staging.{counts}
-use Rattle.strc_staging.proofs.Orders.{counted_append}
-use Rattle.strc_staging.proofs.Segments.{joined_count, less_before, in_is}
-use Rattle.strc_staging.proofs.Cut.{cut_in}
+use Rattle.strc_dataflow.specs.Restart.{Restarted, restarted_meaning, restarted, taken_in}
+use Rattle.strc_dataflow.specs.Chains.{staging_from}
+use Rattle.strc_dataflow.proofs.RestartChains.{restarted_is_staging}
+use Rattle.strc_dataflow.specs.Ranges.{stage_within}
+use Rattle.strc_dataflow.specs.Staging.{Staging, joined, before, in_stage, IsStaging, IsFromUpTo}
+use Rattle.strc_dataflow.specs.Staging.{counts}
+use Rattle.strc_dataflow.proofs.Orders.{counted_append}
+use Rattle.strc_dataflow.proofs.Segments.{joined_count, less_before, in_is}
+use Rattle.strc_dataflow.proofs.Cut.{cut_in}
 use Rattle.strc_staged.specs.Runnings.{Running, resumed, IsRunning, round_pushes}
 use Rattle.strc_staged.proofs.Ports.{port_inside}
 

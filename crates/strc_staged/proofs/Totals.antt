@@ -10,12 +10,12 @@ use Rattle.strc_dataflow.specs.Machine as generic
 use Rattle.strc_graph.specs.Graphs.{NodeCode, gives_words}
 use Rattle.strc_graph.specs.Tapes.{tape_nodes, tape_nodes_from}
 use Rattle.strc_core.specs.Endings.{AreRunning, gathered_of}
-use Rattle.strc_parcel.specs.declared.stop.Stop.{Stop}
-use Rattle.strc_parcel.specs.declared.stop.Stop.TheVariants as stop
-use Rattle.strc_parcel.specs.Parcels.{Load, ParcelView}
-use Rattle.strc_restart.specs.Restart.{numbered_on}
-use Rattle.strc_staging.specs.Stages.{Parcel.Moves, Parcel.Halts, collected}
-use Rattle.strc_staging.specs.Workers.{collects}
+use Rattle.strc_core.specs.declared.stop.Stop.{Stop}
+use Rattle.strc_core.specs.declared.stop.Stop.TheVariants as stop
+use Rattle.strc_core.specs.Parcels.{Load, ParcelView}
+use Rattle.strc_dataflow.specs.Restart.{numbered_on}
+use Rattle.strc_dataflow.specs.Stages.{Parcel.Moves, Parcel.Halts, collected}
+use Rattle.strc_dataflow.specs.Workers.{collects}
 use Rattle.strc_staged.specs.Steps.{Gathered, stage_work, words_joined, with_round}
 use Rattle.strc_staged.specs.Blocks.{passed_before, raised}
 use Rattle.strc_staged.proofs.Follows.{Generic, Related, Relates}

@@ -10,11 +10,11 @@ use Rattle.strc_admissible.specs.Rings.{ring_at}
 use Rattle.strc_admissible.specs.Wiring.{ports_at}
 use Rattle.strc_core.specs.Actors as actors
 use Rattle.strc_core.specs.States.{Start, IsStart}
-use Rattle.strc_parcel.specs.declared.stop.Stop.{Stop}
-use Rattle.strc_parcel.specs.declared.stop.Stop.TheVariants as stop
-use Rattle.strc_parcel.specs.Parcels.{Load, ParcelView, parcel, empty_load}
-use Rattle.strc_staging.specs.Ranges.{stage_within}
-use Rattle.strc_cut.specs.Cuts.{segment_of}
+use Rattle.strc_core.specs.declared.stop.Stop.{Stop}
+use Rattle.strc_core.specs.declared.stop.Stop.TheVariants as stop
+use Rattle.strc_core.specs.Parcels.{Load, ParcelView, parcel, empty_load}
+use Rattle.strc_dataflow.specs.Ranges.{stage_within}
+use Rattle.strc_stage.specs.Cuts.{segment_of}
 use Rattle.strc_staged.specs.Runnings.{Running, round_pushes}
 use Rattle.strc_staged.specs.Steps.{Crossing, TapeOf, StageState, Gathered}
 

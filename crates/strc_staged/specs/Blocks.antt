@@ -3,7 +3,7 @@ use Rattle.std.specs.Prelude.{◌≡◌, ℕ, zero, suc, ◌<◌, ◌≤◌, Boo
 use Rattle.std.specs.Prelude.{length, Some, slice_get}
 use Rattle.strc_graph.specs.Graphs.{NodeCode, Channel, gives_words}
 use Rattle.strc_graph.specs.Tapes.{tape_nodes}
-use Rattle.strc_parcel.specs.Parcels.{Load, block_at}
+use Rattle.strc_core.specs.Parcels.{Load, block_at}
 use Rattle.strc_staged.specs.Beginnings.{stage_at, crosses, rooms_of}
 use Rattle.strc_staged.specs.Runnings.{Running, round_pushes}
 

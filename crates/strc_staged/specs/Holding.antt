@@ -9,17 +9,17 @@ use Rattle.strc_dataflow.specs.Node.{ByPort}
 use Rattle.strc_dataflow.specs.Queues.{FifoProgress, FifoProgress.FifoWent}
 use Rattle.strc_dataflow.specs.Queues.{FifoProgress.FifoStopped}
 use Rattle.strc_graph.specs.Graphs.{NodeCode, Channel, gives_words, reads_input}
-use Rattle.strc_parcel.specs.Parcels as parcels
-use Rattle.strc_parcel.specs.Parcels.{Load, block_at}
+use Rattle.strc_core.specs.Parcels as parcels
+use Rattle.strc_core.specs.Parcels.{Load, block_at}
 use Rattle.strc_admissible.specs.Fits.{Queues}
 use Rattle.strc_admissible.specs.Machine as machines
 use Rattle.strc_admissible.specs.Machine.{CircuitView, MachineView, words_at}
 use Rattle.strc_admissible.specs.Rings.{ring_at}
 use Rattle.strc_admissible.specs.Wiring.{ports_at}
-use Rattle.strc_cut.specs.Cuts.{segment_of}
-use Rattle.strc_restart.specs.Restart.{Restarted, numbered_on}
-use Rattle.strc_staging.specs.Stages.{sent_blocks, sent_words}
-use Rattle.strc_staging.specs.Staging.{Staging, in_stage}
+use Rattle.strc_stage.specs.Cuts.{segment_of}
+use Rattle.strc_dataflow.specs.Restart.{Restarted, numbered_on}
+use Rattle.strc_dataflow.specs.Stages.{sent_blocks, sent_words}
+use Rattle.strc_dataflow.specs.Staging.{Staging, in_stage}
 use Rattle.strc_staged.specs.Beginnings.{stage_at, crosses, entering_at, leaving_at, tapes_at}
 use Rattle.strc_staged.specs.Blocks.{IsLoadOf, block_of, tape_of}
 use Rattle.strc_staged.specs.Runnings.{Running, round_pushes}

@@ -18,16 +18,16 @@ use Rattle.strc_admissible.specs.RingAnswer.{Tells}
 use Rattle.strc_admissible.specs.Simulation.{Simulates}
 use Rattle.strc_core.specs.Events.{is_over, before}
 use Rattle.strc_core.specs.States.{Start, Core, IsState}
-use Rattle.strc_parcel.specs.declared.stop.Stop.{Stop}
-use Rattle.strc_parcel.specs.declared.stop.Stop.TheVariants as stop
-use Rattle.strc_parcel.specs.Parcels.{Load, ParcelView}
-use Rattle.strc_cut.specs.Cuts.{segment_of}
-use Rattle.strc_restart.specs.Chains.{meaning_from, graph_from, staging_from}
-use Rattle.strc_restart.specs.Rounds.{RepeatsByRounds, IsBalancedByRounds}
-use Rattle.strc_restart.specs.Schedules.{fired_in}
-use Rattle.strc_staging.specs.Parcels.{HasMoved, IsWorking}
-use Rattle.strc_staging.specs.Stages.{entered}
-use Rattle.strc_staging.specs.Staging.{IsStaging}
+use Rattle.strc_core.specs.declared.stop.Stop.{Stop}
+use Rattle.strc_core.specs.declared.stop.Stop.TheVariants as stop
+use Rattle.strc_core.specs.Parcels.{Load, ParcelView}
+use Rattle.strc_stage.specs.Cuts.{segment_of}
+use Rattle.strc_dataflow.specs.Chains.{meaning_from, graph_from, staging_from}
+use Rattle.strc_dataflow.specs.RestartRounds.{RepeatsByRounds, IsBalancedByRounds}
+use Rattle.strc_dataflow.specs.Schedules.{fired_in}
+use Rattle.strc_dataflow.specs.Parcels.{HasMoved, IsWorking}
+use Rattle.strc_dataflow.specs.Stages.{entered}
+use Rattle.strc_dataflow.specs.Staging.{IsStaging}
 use Rattle.strc_staged.specs.Steps.{StageState, Gathered, stage_work, stage_run}
 use Rattle.strc_staged.specs.Beginnings.{IsBeginning}
 use Rattle.strc_staged.specs.Blocks.{FitsBefore}

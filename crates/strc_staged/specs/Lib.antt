@@ -5,3 +5,13 @@ pub mod Blocks
 pub mod Holding
 pub mod Laws
 pub mod Rows
+pub mod SplitRingsLaws
+pub mod Names
+pub mod Plans
+pub mod SplitCutLaws
+pub mod SplitRingsRows
+pub mod Origins
+pub mod Dealt
+pub mod Handing
+pub mod DealtLaws
+pub mod DealtRows

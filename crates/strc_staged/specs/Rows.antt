@@ -12,12 +12,12 @@ use Rattle.strc_graph.specs.Graphs.{NodeCode, Filter, FileWriter, Channel}
 use Rattle.strc_core.specs.Actors as actors
 use Rattle.strc_core.specs.Events.{is_over}
 use Rattle.strc_core.specs.States.{Start, Core, IsStart, IsState}
-use Rattle.strc_parcel.specs.declared.stop.Stop.{Stop}
-use Rattle.strc_parcel.specs.declared.stop.Stop.TheVariants as stop
-use Rattle.strc_parcel.specs.Parcels.{Load, ParcelView, parcel, empty_load}
+use Rattle.strc_core.specs.declared.stop.Stop.{Stop}
+use Rattle.strc_core.specs.declared.stop.Stop.TheVariants as stop
+use Rattle.strc_core.specs.Parcels.{Load, ParcelView, parcel, empty_load}
 use Rattle.strc_admissible.specs.Machine.{CircuitView, MachineView, Ending, Ended, FaultedIn}
 use Rattle.strc_admissible.specs.Machine.{whole_run}
-use Rattle.strc_cut.specs.Cuts.{segment_of}
+use Rattle.strc_stage.specs.Cuts.{segment_of}
 use Rattle.strc_staged.specs.Beginnings.{entering_at, leaving_at, tapes_at}
 use Rattle.strc_staged.specs.Laws.{TellsEnding}
 use Rattle.strc_staged.specs.Steps.{StageState, Gathered, stage_work}

@@ -11,17 +11,17 @@ use Rattle.strc_graph.specs.Graphs.{NodeCode, FileReader, Channel, Graph}
 use Rattle.strc_graph.specs.Meaning.{node_meaning}
 use Rattle.strc_graph.specs.Rates.{pushes_at}
 use Rattle.strc_startup.specs.Rates.{push_at}
-use Rattle.strc_order.specs.Firings.{Firings}
+use Rattle.strc_schedule.specs.Firings.{Firings}
 use Rattle.strc_admissible.specs.ByChannels.{IsByChannels}
 use Rattle.strc_admissible.specs.Circuits.{IsCircuit}
 use Rattle.strc_admissible.specs.Fits.{Queues}
 use Rattle.strc_admissible.specs.Machine.{CircuitView}
 use Rattle.strc_admissible.specs.NodeSteps.{HasOwnWindow}
-use Rattle.strc_restart.specs.Restart.{restarted_meaning, restarted}
-use Rattle.strc_restart.specs.Chains.{Resumption, IsResumption}
-use Rattle.strc_parts.specs.GoingOn as going
-use Rattle.strc_staging.specs.Ranges.{stage_within}
-use Rattle.strc_cut.specs.Cuts.{segment_of}
+use Rattle.strc_dataflow.specs.Restart.{restarted_meaning, restarted}
+use Rattle.strc_dataflow.specs.Chains.{Resumption, IsResumption}
+use Rattle.strc_admissible.specs.GoingOn as going
+use Rattle.strc_dataflow.specs.Ranges.{stage_within}
+use Rattle.strc_stage.specs.Cuts.{segment_of}
 
 -- The nodes and channels that run, how often each node fires in a round, the firings of a round in
 -- order, and for how many items the ring of each channel has room.

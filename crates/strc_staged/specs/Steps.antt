@@ -3,10 +3,10 @@ use Rattle.std.specs.Prelude.{ℕ, suc, Option, Some, None, List, [], ◌∷◌,
 use Rattle.circular_buffer.specs.Buffer.{buffer}
 use Rattle.strc_semantics.specs.declared.word.Word.{Word}
 use Rattle.strc_core.specs.Actors.{Work}
-use Rattle.strc_parcel.specs.declared.stop.Stop.{Stop}
-use Rattle.strc_parcel.specs.declared.stop.Stop.TheVariants as stop
-use Rattle.strc_parcel.specs.Parcels as parcels
-use Rattle.strc_parcel.specs.Parcels.{Load, block_at, with_block, with_words, filled}
+use Rattle.strc_core.specs.declared.stop.Stop.{Stop}
+use Rattle.strc_core.specs.declared.stop.Stop.TheVariants as stop
+use Rattle.strc_core.specs.Parcels as parcels
+use Rattle.strc_core.specs.Parcels.{Load, block_at, with_block, with_words, filled}
 pub use Rattle.strc_staged.specs.declared.crossing.Crossing.{Crossing}
 pub use Rattle.strc_staged.specs.declared.crossing.TapeOf.{TapeOf}
 use Rattle.strc_admissible.specs.Machine.{CircuitView, MachineView, Progress, Went, Stopped}

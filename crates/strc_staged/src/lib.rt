@@ -1,13 +1,21 @@
-// Takes nothing: but for two pairs of numbers it has no code.
-// Gives what a stage does with a parcel, over the machine of rings, what the collector does, what a
-// ring of them begins with, and what is asked of a graph whose rounds they run; and laws.
-// The theorem to rely on: `stages_run_alike`, by which a ring that is over has come to the outcome
-// of the rounds, from the state that the ring began with.
-// Stands on strc_core, whose rings it speaks of, strc_staging, strc_restart and strc_cut, whose
-// laws on stages it uses, and strc_admissible, whose machine the stages have.
+// Takes a machine over rings after start-up, and a plan's graph after fission.
+// Gives the machine for that graph, to which the state is dealt out (`deal_out`); what a stage does
+// with a parcel, over the machine of rings, what the collector does and what a ring of them begins
+// with; and laws on such rings, and on plans that are run by them (`split_rings_laws`).
+// The theorems to rely on: `stages_run_alike`: a ring that is over has come to the outcome of the
+// rounds, from the state that it began with; `plan_rings_answer`: and so to the answer of the
+// program's stream equations; `plan_rounds_answer`: so has one machine that runs the rounds;
+// `dealt_machines_hold`: what `deal_out` gives holds the state after start-up.
+// Stands on strc_stage, whose plans these are, on strc_core, whose rings it speaks of, on
+// strc_split, whose graphs these are, on strc_runner and strc_rings, whose machines and circuits
+// hold their state, and on what these stand on.
 #![tactic(auto)]
 
 mod crossing;
+pub mod dealing;
+pub mod laws;
+pub mod split_cut_laws;
+pub mod split_rings_laws;
 
 ghost use Rattle.strc_staged.specs.Laws.{OutcomesTellEndings, ParcelsFit};
 ghost use Rattle.strc_staged.specs.Laws.{RoundsHaveRoom, RoundsRunAlike, StageStepsAlike};

@@ -3,8 +3,8 @@ use Rattle.std.proofs.Common.{◌≡◌, refl, sym, ap, suc, Bool, true, false, 
 use Rattle.std.proofs.Common.{Some, None}
 use Rattle.std.proofs.Common.{is_some, inl, inr}
 use Rattle.strc_core.specs.Actors.{Collector, MayStop, collected, returned, or_else}
-use Rattle.strc_parcel.specs.declared.stop.Stop.{Stop}
-use Rattle.strc_parcel.specs.Parcels.{Load, ParcelView, parcel, emptied}
+use Rattle.strc_core.specs.declared.stop.Stop.{Stop}
+use Rattle.strc_core.specs.Parcels.{Load, ParcelView, parcel, emptied}
 use Rattle.strc_staged.specs.Steps.{Gathered, stage_work, with_round}
 
 -- A stopped parcel goes back as it is.

@@ -3,7 +3,7 @@ use Rattle.std.proofs.Common.{◌≡◌, refl, sym, ap, ◌∙◌, subst, ℕ, z
 use Rattle.std.proofs.Common.{◌∷◌}
 use Rattle.std.proofs.Common.{◌++◌, set, get_or, take, length, replicate, arith, append_assoc}
 use Rattle.std.proofs.lemmas.List.{length-set, length-append}
-use Rattle.strc_parcel.specs.Parcels.{Load, block_at, with_block, filled, emptied}
+use Rattle.strc_core.specs.Parcels.{Load, block_at, with_block, filled, emptied}
 use Rattle.strc_staged.specs.declared.crossing.Crossing.{Crossing}
 use Rattle.strc_staged.specs.Steps.{load_entered}
 

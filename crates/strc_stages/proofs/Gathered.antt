@@ -6,7 +6,7 @@ use Rattle.std.proofs.lemmas.List.{append-nil, take-append-drop}
 use Rattle.std.proofs.Math.Seq.{drop-nil, map-set_same}
 use Rattle.std.specs.Global.{Vec}
 use Rattle.strc_semantics.specs.declared.word.Word.{Word}
-use Rattle.strc_parcel.specs.Parcels.{Load, words_at}
+use Rattle.strc_core.specs.Parcels.{Load, words_at}
 use Rattle.strc_staged.specs.Steps.{words_joined}
 use Rattle.strc_stages.specs.Gathering.{HasRoom, HaveRoom}
 

@@ -6,3 +6,9 @@ pub mod Steps
 pub mod Turns
 pub mod Working
 pub mod Fitting
+mod Timely
+mod Acting
+mod Moving
+mod Happening
+mod Beginning
+mod Advancing

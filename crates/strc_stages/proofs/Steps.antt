@@ -5,9 +5,9 @@ use Rattle.std.proofs.Common.{cond, ◌||◌, eqb, nat_eq, arith, Option, Some, 
 use Rattle.std.proofs.lemmas.Bool.{eqb-true, eqb-false}
 use Rattle.strc_core.specs.Actors.{Stage, MayStop, Step, is_passing, is_marked, stop_of, next, made}
 use Rattle.strc_core.specs.Actors.{or_else}
-use Rattle.strc_parcel.specs.declared.stop.Stop.{Stop}
-use Rattle.strc_parcel.specs.declared.stop.Stop.TheVariants.{NoMemory}
-use Rattle.strc_parcel.specs.Parcels.{Load, ParcelView, parcel, emptied}
+use Rattle.strc_core.specs.declared.stop.Stop.{Stop}
+use Rattle.strc_core.specs.declared.stop.Stop.TheVariants.{NoMemory}
+use Rattle.strc_core.specs.Parcels.{Load, ParcelView, parcel, emptied}
 use Rattle.strc_staged.specs.Steps.{StageState, stage_work, with_machine, due_stop_of}
 use Rattle.strc_staged.specs.Steps.{state_of_step, load_of_step}
 use Rattle.strc_admissible.specs.Machine.{MachineView}

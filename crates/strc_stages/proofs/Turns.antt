@@ -7,8 +7,8 @@ use Rattle.std.proofs.lemmas.List.{drop_all}
 use Rattle.strc_semantics.specs.declared.word.Word.{Word}
 use Rattle.strc_admissible.specs.Machine.{MachineView, words_at}
 use Rattle.strc_admissible.specs.Rings.{Ring, given, items_at, ring_at}
-use Rattle.strc_parcel.specs.Parcels as parcels
-use Rattle.strc_parcel.specs.Parcels.{ParcelView, Load, block_at, with_block, filled}
+use Rattle.strc_core.specs.Parcels as parcels
+use Rattle.strc_core.specs.Parcels.{ParcelView, Load, block_at, with_block, filled}
 use Rattle.strc_staged.specs.declared.crossing.Crossing.{Crossing}
 use Rattle.strc_staged.specs.declared.crossing.TapeOf.{TapeOf}
 use Rattle.strc_staged.specs.Steps.{machine_entered, load_entered, load_left, rings_left}

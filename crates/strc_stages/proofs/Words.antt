@@ -4,7 +4,7 @@ use Rattle.std.proofs.Common.{set}
 use Rattle.std.proofs.lemmas.List.{get_or-set_other}
 use Rattle.strc_semantics.specs.declared.word.Word.{Word}
 use Rattle.strc_admissible.specs.Machine.{words_at}
-use Rattle.strc_parcel.specs.Parcels.{Load, with_words}
+use Rattle.strc_core.specs.Parcels.{Load, with_words}
 use Rattle.strc_staged.specs.declared.crossing.TapeOf.{TapeOf}
 use Rattle.strc_staged.specs.Steps.{load_worded}
 use Rattle.strc_stages.specs.Tapes.{AreAfter}

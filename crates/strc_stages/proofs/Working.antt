@@ -4,9 +4,9 @@ use Rattle.std.proofs.Common.{Some}
 use Rattle.std.proofs.Common.{None, Result, Ok, Err, inl, inr, if◌then◌else◌}
 use Rattle.strc_semantics.specs.declared.word.Word.{Word}
 use Rattle.strc_admissible.specs.Machine.{MachineView, Progress, Went, order_run}
-use Rattle.strc_parcel.specs.declared.stop.Stop.{Stop}
-use Rattle.strc_parcel.specs.declared.stop.Stop.TheVariants as stops
-use Rattle.strc_parcel.specs.Parcels.{Load}
+use Rattle.strc_core.specs.declared.stop.Stop.{Stop}
+use Rattle.strc_core.specs.declared.stop.Stop.TheVariants as stops
+use Rattle.strc_core.specs.Parcels.{Load}
 use Rattle.strc_runner.specs.Running.{HasGone}
 use Rattle.strc_runner.specs.declared.machine.Stop as machines
 use Rattle.strc_runner.specs.declared.machine.Stop.TheVariants as fired

@@ -1,8 +1,8 @@
 -- The blocks of parcels, as a stage wants them.
 use Rattle.std.specs.Prelude.{◌≡◌, ◌⊎◌, ℕ, Bool, true, false, ◌&&◌, ◌||◌, nat_le, nat_lt, nat_eq, ℤ}
 use Rattle.std.specs.Prelude.{if◌then◌else◌, List, [], ◌∷◌, length, map, Some, None, is_some}
-use Rattle.strc_parcel.specs.declared.stop.Stop.TheVariants as stop
-use Rattle.strc_parcel.specs.Parcels.{ParcelView, parcel, empty_load}
+use Rattle.strc_core.specs.declared.stop.Stop.TheVariants as stop
+use Rattle.strc_core.specs.Parcels.{ParcelView, parcel, empty_load}
 use Rattle.strc_stages.specs.declared.stage.Block.{Block}
 use Rattle.strc_stages.specs.declared.stage.StageParts.{StageParts}
 

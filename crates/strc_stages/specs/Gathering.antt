@@ -4,8 +4,8 @@ use Rattle.std.specs.Global.{Vec}
 use Rattle.std.specs.Vec.{vec_items, vec_capacity}
 use Rattle.strc_semantics.specs.declared.word.Word.{Word}
 use Rattle.strc_core.specs.Actors.{MayStop, or_else}
-use Rattle.strc_parcel.specs.declared.stop.Stop.{Stop}
-use Rattle.strc_parcel.specs.Parcels.{Load, ParcelView, words_at}
+use Rattle.strc_core.specs.declared.stop.Stop.{Stop}
+use Rattle.strc_core.specs.Parcels.{Load, ParcelView, words_at}
 use Rattle.strc_staged.specs.Steps.{stage_work, with_round}
 use Rattle.strc_stages.specs.declared.collector.CollectorParts.{CollectorParts}
 use Rattle.strc_stages.specs.Collectors.{total_of}

@@ -5,3 +5,5 @@ pub mod Stages
 pub mod Stepping
 pub mod Blocks
 pub mod Going
+pub mod Seeing
+pub mod Pipes

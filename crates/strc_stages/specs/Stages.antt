@@ -1,11 +1,11 @@
 -- Stages as the definitions see them.
 use Rattle.std.specs.Prelude.{◌≡◌, true, Option, Some, None, is_some, if◌then◌else◌}
 use Rattle.strc_core.specs.Actors as actors
-use Rattle.strc_order.specs.Greedy.{firings_of}
+use Rattle.strc_schedule.specs.Greedy.{firings_of}
 use Rattle.strc_admissible.specs.Machine.{MachineView}
-use Rattle.strc_parcel.specs.declared.stop.Stop.{Stop}
+use Rattle.strc_core.specs.declared.stop.Stop.{Stop}
 use Rattle.strc_runner.specs.Batches.{IsOrderOf, units_of}
-use Rattle.strc_circuit.specs.Circuits.{circuit_view}
+use Rattle.strc_rings.specs.Circuits.{circuit_view}
 use Rattle.strc_runner.specs.Running.{IsMachine, machine_view}
 use Rattle.strc_staged.specs.Steps.{StageState}
 use Rattle.strc_stages.specs.Tapes.{AreAfter}

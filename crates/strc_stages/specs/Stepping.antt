@@ -2,10 +2,10 @@
 use Rattle.std.specs.Prelude.{◌≡◌, ◌⊎◌, Option, Some, None}
 use Rattle.strc_core.specs.Actors as actors
 use Rattle.strc_core.specs.Actors.{MayStop, is_passing, stop_of, next, made}
-use Rattle.strc_parcel.specs.declared.stop.Stop.{Stop}
-use Rattle.strc_parcel.specs.declared.stop.Stop.TheVariants as stops
-use Rattle.strc_parcel.specs.Parcels as parcels
-use Rattle.strc_parcel.specs.Parcels.{ParcelView, parcel}
+use Rattle.strc_core.specs.declared.stop.Stop.{Stop}
+use Rattle.strc_core.specs.declared.stop.Stop.TheVariants as stops
+use Rattle.strc_core.specs.Parcels as parcels
+use Rattle.strc_core.specs.Parcels.{ParcelView, parcel}
 use Rattle.strc_runner.specs.declared.machine.Stop as machine
 use Rattle.strc_runner.specs.declared.machine.Stop.TheVariants as fired
 use Rattle.strc_staged.specs.Steps.{StageState, stage_work, due_stop_of, state_of_step}

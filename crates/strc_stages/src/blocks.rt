@@ -2,11 +2,11 @@
 
 ghost use Rattle.std.specs.Prelude.{◌≡◌, ◌<◌, length, map, IfOk};
 ghost use Rattle.strc_stages.specs.Blocks.{IsFreeFor, blocks_fit, room_of, block_fits};
-ghost use Rattle.strc_parcel.specs.Parcels.{block_at, room_at};
+ghost use Rattle.strc_core.specs.Parcels.{block_at, room_at};
 
 use crate::stage::{Block, StageParts};
 use std::alloc::{AllocError, Global};
-use strc_parcel::{Parcel, Stop};
+use strc_core::{Parcel, Stop};
 
 /// Has a parcel a block for each of these, with their rooms, and holding what they hold?
 pub(crate) fn fit_blocks(blocks: &[Block], parcel: &Parcel) -> bool

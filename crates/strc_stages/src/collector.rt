@@ -3,12 +3,11 @@
 ghost use Rattle.std.specs.Prelude.{◌≡◌};
 ghost use Rattle.strc_stages.specs.Collectors.{begun};
 
+use crate::CollectorActor;
 use crate::gathering::gather;
 use std::alloc::Global;
 use std::marker::Model;
-use strc_actor::Actor;
-use strc_parcel::{Parcel, Stop};
-use strc_pipe::CollectorActor;
+use strc_core::{Actor, Parcel, Stop};
 use strc_semantics::word::Word;
 
 /// What a collector is made of.

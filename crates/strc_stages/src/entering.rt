@@ -2,11 +2,11 @@
 
 ghost use Rattle.std.specs.Prelude.{◌≡◌};
 ghost use Rattle.strc_admissible.specs.Machine.{CircuitView};
-ghost use Rattle.strc_parcel.specs.Parcels as spec;
+ghost use Rattle.strc_core.specs.Parcels as spec;
 ghost use Rattle.strc_runner.specs.Running.{IsMachine, machine_view};
 ghost use Rattle.strc_staged.specs.Steps.{load_entered, machine_entered};
 
-use strc_parcel::Parcel;
+use strc_core::Parcel;
 use strc_runner::machine::Machine;
 use strc_staged::Crossing;
 

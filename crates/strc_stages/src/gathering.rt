@@ -3,7 +3,7 @@
 ghost use Rattle.std.specs.Prelude.{◌≡◌, ◌+◌, ◌≤◌, ◌<◌, ◌++◌, false, map, length, is_some};
 ghost use Rattle.std.specs.Prelude.{MatchResult};
 ghost use Rattle.std.specs.Vec.{vec_items, vec_capacity};
-ghost use Rattle.strc_parcel.specs.Parcels.{words_at};
+ghost use Rattle.strc_core.specs.Parcels.{words_at};
 ghost use Rattle.strc_staged.specs.Steps.{stage_work, words_joined};
 ghost use Rattle.strc_stages.specs.Collectors.{IsCollector, sees};
 ghost use Rattle.strc_core.specs.Actors.{Collects, MayStop, or_else, returned};
@@ -11,7 +11,7 @@ ghost use Rattle.strc_stages.specs.Gathering.{HasAdded, HaveRoom};
 
 use crate::collector::CollectorParts;
 use std::alloc::AllocError;
-use strc_parcel::{Parcel, Stop};
+use strc_core::{Parcel, Stop};
 use strc_semantics::word::Word;
 
 /// A parcel's words are gathered until the first that is stopped; it is given back empty. One whose

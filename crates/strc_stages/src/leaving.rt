@@ -3,11 +3,11 @@
 ghost use Rattle.std.specs.Prelude.{◌≡◌, []};
 ghost use Rattle.strc_admissible.specs.Machine.{CircuitView};
 ghost use Rattle.strc_admissible.specs.Rings.{items_at};
-ghost use Rattle.strc_parcel.specs.Parcels as spec;
+ghost use Rattle.strc_core.specs.Parcels as spec;
 ghost use Rattle.strc_runner.specs.Running.{IsMachine, machine_view, with_rings};
 ghost use Rattle.strc_staged.specs.Steps.{load_left, rings_left};
 
-use strc_parcel::Parcel;
+use strc_core::Parcel;
 use strc_runner::machine::Machine;
 use strc_staged::Crossing;
 

@@ -1,16 +1,15 @@
 // A stage of a plan, as it runs.
 
 ghost use Rattle.std.specs.Prelude.{◌≡◌, IfOk};
-ghost use Rattle.strc_parcel.specs.Parcels.{ParcelView, empty_load, parcel};
+ghost use Rattle.strc_core.specs.Parcels.{ParcelView, empty_load, parcel};
 
+use crate::StageActor;
 use crate::blocks::{fit_blocks, free_parcel};
 use crate::stepping::step_parts;
 use std::alloc::Global;
 use std::marker::Model;
-use strc_actor::Actor;
-use strc_circuit::circuit::Circuit;
-use strc_parcel::{Parcel, Stop};
-use strc_pipe::StageActor;
+use strc_core::{Actor, Parcel, Stop};
+use strc_rings::circuit::Circuit;
 use strc_runner::batches::Order;
 use strc_runner::machine::Machine;
 use strc_staged::{Crossing, TapeOf};

@@ -12,7 +12,7 @@ use crate::leaving::leave;
 use crate::stage::StageParts;
 use crate::wording::hand_words;
 use std::alloc::Global;
-use strc_parcel::{Parcel, Stop};
+use strc_core::{Parcel, Stop};
 use strc_runner::machine;
 
 /// A parcel becomes another one, and the stage is a round further.

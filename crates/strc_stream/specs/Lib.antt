@@ -5,3 +5,5 @@ pub mod Flattening
 pub mod Connections
 pub mod OneGraph
 pub mod Dealing
+pub mod Wires
+pub mod Laws

@@ -1,6 +1,7 @@
 // A stream of instances: what a program's text becomes when its composite streams have run.
 
 use strc_base::name::StringLiteral;
+use strc_base::place::Span;
 use strc_graph::graph::Splitter;
 use strc_graph::instance::Instance;
 
@@ -22,6 +23,8 @@ pub enum Stream {
     /// The joiner's weights, the body, the splitter, the loop, and the items that are enqueued on
     /// the channel from the loop to the joiner.
     FeedbackLoop(Vec<u32>, Box<Stream>, Splitter, Box<Stream>, Vec<i32>),
+    /// A stream and the statement that adds it. Contracts see the stream alone.
+    Placed(Span, Box<Stream>),
 }
 
 impl Drop for Stream {
@@ -33,7 +36,8 @@ impl Drop for Stream {
             | Stream::FileWriter(_)
             | Stream::Pipeline(_)
             | Stream::SplitJoin(_, _, _)
-            | Stream::FeedbackLoop(_, _, _, _, _) => {}
+            | Stream::FeedbackLoop(_, _, _, _, _)
+            | Stream::Placed(_, _) => {}
         }
     }
 }

@@ -85,6 +85,7 @@ abbrev mutual
   stmt_view (stmt.Print value) = tree.Print (expr_view value)
   stmt_view (stmt.Println value) = tree.Println (expr_view value)
   stmt_view (stmt.Compose statement) = tree.Compose (composition_view statement)
+  stmt_view (stmt.Placed' place at statement) = stmt_view statement
 
   pub row_view : {m : _} → Row_of-Stmt m → tree.Stmts
   row_view end_of-Stmt = tree.Done

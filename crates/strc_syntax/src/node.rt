@@ -13,6 +13,7 @@ use crate::tree::{
 };
 use std::alloc::{AllocError, Global};
 use strc_base::name::Name;
+use strc_base::place::Span;
 
 /// `x`, or `x[i]`.
 pub fn read_of(alloc: Global, name: Name, index: Option<Expr>) -> Result<Expr, AllocError>
@@ -166,6 +167,13 @@ pub fn for_of(
         Box::new(alloc, step)?,
         Box::new(alloc, body)?,
     ))
+}
+
+/// The same statement, with where it is written.
+pub fn placed_of(alloc: Global, place: Span, statement: Stmt) -> Result<Stmt, AllocError>
+    ensures { IfOk result (λ s. stmt_view s ≡ stmt_view statement) }
+{
+    Ok(Stmt::Placed(place, Box::new(alloc, statement)?))
 }
 
 #[tactic(auto, using(crate::proofs::Views::member_view_init))]

@@ -1,6 +1,7 @@
 // The syntax tree of a program. Brackets are nodes, so that a tree has one spelling.
 
 use strc_base::name::{Name, StringLiteral};
+use strc_base::place::Span;
 
 /// A whole text: its declarations, in order.
 pub struct Program {
@@ -52,6 +53,8 @@ pub enum Member {
 pub struct RateTree {
     pub kind: RateKind,
     pub rate: Expr,
+    /// Where it is written.
+    pub place: Span,
 }
 
 /// Which rate it is.
@@ -89,6 +92,8 @@ pub struct Variables {
     pub kind: VariableType,
     /// At least one.
     pub variables: Vec<Variable>,
+    /// Where it is written.
+    pub place: Span,
 }
 
 /// The type of variables as it is written.
@@ -139,6 +144,8 @@ pub enum Stmt {
     Println(Expr),
     /// A statement of a composite stream: `add A;`
     Compose(Composition),
+    /// A statement and where it is written. Contracts see the statement alone.
+    Placed(Span, Box<Stmt>),
 }
 
 /// A statement of a composite stream.
@@ -365,7 +372,11 @@ impl Drop for Member {
 
 impl Drop for RateTree {
     fn drop(self) {
-        let RateTree { kind: _, rate: _ } = self;
+        let RateTree {
+            kind: _,
+            rate: _,
+            place: _,
+        } = self;
     }
 }
 
@@ -374,6 +385,7 @@ impl Drop for Variables {
         let Variables {
             kind: _,
             variables: _,
+            place: _,
         } = self;
     }
 }
@@ -412,7 +424,8 @@ impl Drop for Stmt {
             | Stmt::Push(_)
             | Stmt::Print(_)
             | Stmt::Println(_)
-            | Stmt::Compose(_) => {}
+            | Stmt::Compose(_)
+            | Stmt::Placed(_, _) => {}
         }
     }
 }

@@ -14,6 +14,8 @@ mod graphs;
 #[cfg(test)]
 mod heights;
 #[cfg(test)]
+mod lanes;
+#[cfg(test)]
 mod lexing;
 #[cfg(test)]
 mod rates;

@@ -87,9 +87,14 @@ fn show_child(out: &mut String, child: &Child) -> Result<(), AllocError> {
 }
 
 fn show(out: &mut String, statement: &Stmt) -> Result<(), AllocError> {
-    let Stmt::Compose(composition) = statement else {
-        return out.push_str("another statement");
-    };
+    match statement {
+        Stmt::Placed(_, inner) => show(out, inner),
+        Stmt::Compose(composition) => show_composition(out, composition),
+        _ => out.push_str("another statement"),
+    }
+}
+
+fn show_composition(out: &mut String, composition: &Composition) -> Result<(), AllocError> {
     match composition {
         Composition::Child(role, child) => {
             out.push_str(match role {

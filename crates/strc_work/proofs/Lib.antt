@@ -11,3 +11,14 @@ pub mod StatementRuns
 pub mod FilterRuns
 pub mod Printing
 pub mod Answering
+pub mod Adding
+pub mod Runs
+pub mod NodeRuns
+pub mod ShortLoops
+pub mod TestedLoops
+pub mod Accepting
+pub mod TypesOfExpressions
+pub mod Numbers
+pub mod Statements
+pub mod Filters
+pub mod Examples

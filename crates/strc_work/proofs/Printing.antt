@@ -16,7 +16,7 @@ use Rattle.strc_code.specs.declared.inst.Inst.TheVariants as act
 use Rattle.strc_semantics.specs.declared.body.Body.{Body}
 use Rattle.strc_semantics.specs.declared.fault.Halt.{Halt}
 use Rattle.strc_semantics.specs.declared.fault.Halt.TheVariants as halt
-use Rattle.strc_inst.specs.Running.{WantsOnlyWords}
+use Rattle.strc_instructions.specs.Running.{WantsOnlyWords}
 use Rattle.strc_semantics.specs.Filters.{Filter, stmt_prints, stmts_print, body_block}
 use Rattle.strc_semantics.specs.Filters.{body_prints}
 use Rattle.strc_semantics.specs.Firing.{assigned_value}

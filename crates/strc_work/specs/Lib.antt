@@ -2,3 +2,12 @@ pub mod Kept
 pub mod States
 pub mod Answers
 pub mod StartErrors
+pub mod Counting
+pub mod Products
+pub mod Runs
+pub mod Expressions
+pub mod Numbers
+pub mod Statements
+pub mod Filters
+pub mod Laws
+pub mod Examples

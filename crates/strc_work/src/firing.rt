@@ -3,21 +3,21 @@
 ghost use Rattle.std.specs.Prelude.{◌≡◌, [], IfOk};
 ghost use Rattle.strc_semantics.specs.Filters as filters;
 ghost use Rattle.strc_semantics.specs.Firing.{started, fired};
-ghost use Rattle.strc_machine.specs.Running.{MoreWords, WantsOnlyWords};
+ghost use Rattle.strc_instructions.specs.Running.{MoreWords, WantsOnlyWords};
 ghost use Rattle.strc_work.specs.Answers.{Starts, Fires, WantsGivenWords};
 ghost use Rattle.strc_work.specs.StartErrors.{start_error_of};
 ghost use Rattle.strc_work.specs.States.{IsStateOf, IsFrameOf};
 
 use crate::code::Code;
 use crate::frame::Frame;
+use crate::machine;
 use crate::state::State;
 use std::alloc::Global;
 use strc_base::memory::NoMemory;
 use strc_code::limits::FiringLimits;
-use strc_inst::io::FiringIo;
-use strc_inst::port::FiringPort;
-use strc_inst::window::Window;
-use strc_machine::machine;
+use strc_instructions::io::FiringIo;
+use strc_instructions::port::FiringPort;
+use strc_instructions::window::Window;
 use strc_semantics::body::Body;
 use strc_semantics::fault::{Cause, Halt};
 use strc_semantics::word::Word;
@@ -39,7 +39,7 @@ pub trait Fire {
     ghost use Rattle.std.specs.Prelude.{[], ◌≡◌, IfOk};
     ghost use Rattle.strc_semantics.specs.Filters.{Filter, body_prints};
     ghost use Rattle.strc_semantics.specs.Firing.{started, fired};
-    ghost use Rattle.strc_machine.specs.Running.{MoreWords, WantsOnlyWords};
+    ghost use Rattle.strc_instructions.specs.Running.{MoreWords, WantsOnlyWords};
     ghost use Rattle.strc_work.specs.Answers.{Starts, Fires, WantsGivenWords};
     ghost use Rattle.strc_work.specs.States.{IsStateOf, IsFrameOf};
 

@@ -3,7 +3,7 @@
 ghost use Rattle.std.specs.Prelude.{◌≡◌};
 
 use std::marker::Model;
-use strc_inst::io::FiringIo;
+use strc_instructions::io::FiringIo;
 
 /// The items that a firing has pushed, with room for as many as it may push. Contracts see both.
 #[derive(Drop)]

@@ -1,5 +1,7 @@
 // What a filter keeps from one firing to the next.
 
+ghost use Rattle.std.specs.Prelude.{◌≡◌};
+
 use std::marker::Model;
 
 /// The values of a filter's fields, and room for the locals of a firing after them. Contracts see
@@ -22,4 +24,14 @@ impl Model for State {
     } };
 
     ghost invariant = { λ s. s.fields ≤ length s.slots.items };
+}
+
+impl State {
+    /// The values of the fields, in order.
+    #[inline]
+    pub fn fields(&self) -> &[i32]
+        ensures { result.now ≡ self.now.fields }
+    {
+        &self.slots[..self.fields]
+    }
 }

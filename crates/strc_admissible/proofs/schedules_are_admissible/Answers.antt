@@ -1,6 +1,6 @@
 use Rattle.strc_dataflow.proofs.Theorem.{stream_queue_run}
 use Rattle.strc_graph.specs.Meaning.{node_meaning}
-use Rattle.strc_order.specs.Order.{firing_count}
+use Rattle.strc_schedule.specs.Order.{firing_count}
 use Rattle.strc_admissible.specs.Laws.{startup_order, round_order}
 use Rattle.strc_admissible.proofs.Filling.{run_fits}
 use Rattle.strc_admissible.proofs.Keeping.{nodes_keep_rates, nodes_take_within}

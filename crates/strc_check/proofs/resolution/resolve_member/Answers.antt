@@ -13,24 +13,24 @@ use Rattle.strc_check.proofs.resolution.resolve_member.Goals as goal
 pub returns-in_ok-block-in-Init-clause-verdict : goal.returns-in_ok-block-in-Init-clause-verdict
 returns-in_ok-block-in-Init-clause-verdict c =
     sym (init_judged c.args.constants.now c.args.input c.args.output c.args.fields.now
-    c.args.before.now (context_of c.init_context-context-in-Init.result) c.args.member.now
-    c.in-Init.block c.deref-in-Init.result.now c.init_context-context-in-Init.ensures
-    c.deref-in-Init.ensures.value c.in-Init.is)
+    c.args.before.now (context_of c.init_context-context.result) c.args.member.now
+    c.in-Init.block c.deref.result.now c.init_context-context.ensures
+    c.deref.ensures.value c.in-Init.is)
     ∙ ap (λ r. result_and_then r (λ b. Ok (tree.Init b))) c.in_ok-block-in-Init.ensures.verdict
     ∙ ap Ok (sym (member_view-Init c.in_ok-block-in-Init.block))
 
 pub returns-in_err-block-in-Init-clause-verdict : goal.returns-in_err-block-in-Init-clause-verdict
 returns-in_err-block-in-Init-clause-verdict c =
-    let p = err_from_is_err_and c.from_residual-in_err-block-in-Init.result
-    c.from_residual-in_err-block-in-Init.ensures.1 in
+    let p = err_from_is_err_and c.from_residual.result
+    c.from_residual.ensures.1 in
     let refused = refusal_same _ _ c.in_err-block-in-Init.field-0.0
     (init_judged c.args.constants.now c.args.input c.args.output c.args.fields.now c.args.before.now
-    (context_of c.init_context-context-in-Init.result) c.args.member.now c.in-Init.block
-    c.deref-in-Init.result.now c.init_context-context-in-Init.ensures
-    c.deref-in-Init.ensures.value c.in-Init.is)
+    (context_of c.init_context-context.result) c.args.member.now c.in-Init.block
+    c.deref.result.now c.init_context-context.ensures
+    c.deref.ensures.value c.in-Init.is)
     (refusal_through (judged.body_resolved
-    (context_of c.init_context-context-in-Init.result) c.args.fields.now
-    (block_view c.deref-in-Init.result.now))
+    (context_of c.init_context-context.result) c.args.fields.now
+    (block_view c.deref.result.now))
     (λ b. Ok (tree.Init b)) c.in_err-block-in-Init.field-0.0
     c.in_err-block-in-Init.ensures.verdict) in
     rw (p.1, p.2) refused
@@ -86,3 +86,8 @@ returns-in_err-work-in-Work-clause-verdict c =
     (λ w. Ok (tree.Work w.rates w.block)) c.in_err-work-in-Work.field-0.0
     c.in_err-work-in-Work.ensures.verdict) in
     rw (p.1, p.2) refused
+
+pub returns-in-Fields-clause-verdict : goal.returns-in-Fields-clause-verdict
+returns-in-Fields-clause-verdict c =
+    rw c.placed.ensures
+    (rw c.in-Fields.is (c.resolve_declared_fields.ensures.verdict c.args.input c.args.output))

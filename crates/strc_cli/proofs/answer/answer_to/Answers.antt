@@ -10,7 +10,7 @@ use Rattle.strc_cli.proofs.answer.answer_to.Goals as goal
 pub returns-in-Check-clause-answered : goal.returns-in-Check-clause-answered
 returns-in-Check-clause-answered g c =
     let text = c.args.text.now in
-    let plan = c.in-Ok-compile.plan in
+    let plan = c.in-Ok-compile_or_where.plan in
     let bytes = g.I.Source.remaining c.args.input.now in
     let size : HasSize text (choice_of c.args.command.now) (length plan.graph.nodes)
     (length plan.graph.channels) =
@@ -18,7 +18,7 @@ returns-in-Check-clause-answered g c =
     (λ (choice : Choice). HasSize text choice (length plan.graph.nodes)
     (length plan.graph.channels))
     (same_choice _ _ c.in-Ok.ensures.main c.in-Ok.ensures.ways c.in-Ok.ensures.fuse)
-    (plan_size text _ plan c.in-Ok-compile.ensures.plan) in
+    (plan_size text _ plan c.in-Ok-compile_or_where.ensures.plan) in
     subst
     (λ (command : Command). IsAsked text command bytes
     (answer.Checked (length c.nodes.result.now) (length c.channels.result.now)))
@@ -34,11 +34,11 @@ returns-in-Check-clause-answered g c =
 pub returns-in-Run-clause-answered : goal.returns-in-Run-clause-answered
 returns-in-Run-clause-answered g c =
     let text = c.args.text.now in
-    let plan = c.in-Ok-compile.plan in
+    let plan = c.in-Ok-compile_or_where.plan in
     let is : IsPlanOf text (choice_of c.args.command.now) plan =
     subst (λ (choice : Choice). IsPlanOf text choice plan)
     (same_choice _ _ c.in-Ok.ensures.main c.in-Ok.ensures.ways c.in-Ok.ensures.fuse)
-    c.in-Ok-compile.ensures.plan in
+    c.in-Ok-compile_or_where.ensures.plan in
     subst
     (λ (command : Command). IsAnswered text command (g.I.Source.remaining c.args.input.now)
     c.run_plan.result)
@@ -49,11 +49,11 @@ returns-in-Run-clause-answered g c =
 pub returns-in-Run-clause-unread : goal.returns-in-Run-clause-unread
 returns-in-Run-clause-unread g c =
     let text = c.args.text.now in
-    let plan = c.in-Ok-compile.plan in
+    let plan = c.in-Ok-compile_or_where.plan in
     let is : IsPlanOf text (choice_of c.args.command.now) plan =
     subst (λ (choice : Choice). IsPlanOf text choice plan)
     (same_choice _ _ c.in-Ok.ensures.main c.in-Ok.ensures.ways c.in-Ok.ensures.fuse)
-    c.in-Ok-compile.ensures.plan in
+    c.in-Ok-compile_or_where.ensures.plan in
     elim c.run_plan.ensures.unread [
       | inl same ↦ inl same
       | inr reads ↦ inr (subst (ReadsInput text) (sym c.in-Run.is)

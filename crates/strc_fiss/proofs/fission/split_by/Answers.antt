@@ -2,9 +2,9 @@ use Rattle.std.proofs.Common.{◌≡◌, ◌∙◌, ap, sym, subst, ℕ, List, l
 use Rattle.std.proofs.lemmas.List.{length-map}
 use Rattle.strc_graph.specs.Graphs.{JoinsPorts}
 use Rattle.strc_graph.specs.NodeView.{graph_view, node_view, channel_view}
-use Rattle.strc_order.specs.declared.unit as units
-use Rattle.strc_order.specs.Buffers.{size_limit}
-use Rattle.strc_order.specs.Peaks.{HasNodes}
+use Rattle.strc_schedule.specs.declared.unit as units
+use Rattle.strc_schedule.specs.Buffers.{size_limit}
+use Rattle.strc_schedule.specs.Peaks.{HasNodes}
 use Rattle.strc_fuse.specs.Units.{round_units}
 use Rattle.strc_fiss.specs.Numbers.{share_at, base, each_part, origin_of}
 use Rattle.strc_fiss.specs.Splitting.{Wire, new_code, new_loop, split_graph}

@@ -6,9 +6,9 @@ use Rattle.strc_graph.specs.NodeView.{splitter_view, channel_view}
 use Rattle.strc_stream.specs.declared.stream.Stream.{the_lemmas}
 use Rattle.strc_stream.specs.Flattening.{row_nodes, splitter_nodes}
 use Rattle.strc_stream.specs.View.{stream_view, streams_view}
-use Rattle.strc_wiring.specs.Wires.{row_wires}
-use Rattle.strc_wiring.specs.Wires.{wire, wires, splitter_wires, branch_wires}
-use Rattle.strc_wiring.specs.Wires.{joiner_wires}
+use Rattle.strc_stream.specs.Wires.{row_wires}
+use Rattle.strc_stream.specs.Wires.{wire, wires, splitter_wires, branch_wires}
+use Rattle.strc_stream.specs.Wires.{joiner_wires}
 use Rattle.strc_flatten.specs.HasNodes.{HasNodes}
 use Rattle.strc_flatten.specs.TargetView.{target_view}
 use Rattle.strc_flatten.proofs.Appended.{append_as, append_three}

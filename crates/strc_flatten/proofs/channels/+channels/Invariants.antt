@@ -3,7 +3,7 @@ use Rattle.std.specs.Option.{option_map}
 use Rattle.strc_graph.specs.NodeView.{channel_view}
 use Rattle.strc_stream.specs.Flattening.{row_nodes}
 use Rattle.strc_stream.specs.View.{streams_view}
-use Rattle.strc_wiring.specs.Wires.{row_wires, branch_wires}
+use Rattle.strc_stream.specs.Wires.{row_wires, branch_wires}
 use Rattle.strc_flatten.specs.HasNodes.{HaveNodes}
 use Rattle.strc_flatten.specs.TargetView.{target_view}
 use Rattle.strc_flatten.specs.Verdicts.{node_limit}

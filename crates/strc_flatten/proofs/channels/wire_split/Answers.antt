@@ -9,7 +9,7 @@ use Rattle.strc_graph.specs.NodeView.{splitter_view, channel_view}
 use Rattle.strc_stream.specs.Flattening.{nodes_of, size_of, row_nodes}
 use Rattle.strc_stream.specs.Types.{splitter_carried}
 use Rattle.strc_stream.specs.View.{stream_view, streams_view}
-use Rattle.strc_wiring.specs.Wires.{wire, to_port, split_wires}
+use Rattle.strc_stream.specs.Wires.{wire, to_port, split_wires}
 use Rattle.strc_flatten.specs.TargetView.{target_view}
 use Rattle.strc_flatten.proofs.NodeCounts.{few_streams}
 use Rattle.strc_flatten.proofs.Views.{streams_view-drop}

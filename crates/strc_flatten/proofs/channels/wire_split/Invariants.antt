@@ -3,7 +3,7 @@ use Rattle.strc_graph.specs.NodeView.{channel_view, splitter_view}
 use Rattle.strc_stream.specs.Flattening.{row_nodes}
 use Rattle.strc_stream.specs.Types.{splitter_carried}
 use Rattle.strc_stream.specs.View.{streams_view}
-use Rattle.strc_wiring.specs.Wires.{split_wires}
+use Rattle.strc_stream.specs.Wires.{split_wires}
 use Rattle.strc_flatten.specs.Verdicts.{node_limit}
 use Rattle.strc_flatten.proofs.channels.wire_split.Given as goal
 

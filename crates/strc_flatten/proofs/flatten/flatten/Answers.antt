@@ -4,7 +4,7 @@ use Rattle.strc_graph.specs.NodeView.{node_view}
 use Rattle.strc_stream.specs.Connections.{IsConnected}
 use Rattle.strc_stream.specs.Flattening.{nodes_of, codes_of, meaning_of}
 use Rattle.strc_stream.specs.View.{stream_view}
-use Rattle.strc_wiring.proofs.Nodes.{nodes_are_codes}
+use Rattle.strc_stream.proofs.Nodes.{nodes_are_codes}
 use Rattle.strc_flatten.proofs.Assembled.{refused_before, assembled_verdict, assembled_flat}
 use Rattle.strc_flatten.proofs.Assembled.{assembled_program}
 use Rattle.strc_flatten.proofs.Assembled.{assembled_names}

@@ -1,14 +1,14 @@
 use Rattle.std.proofs.Common.{◌≡◌, sym, ap, ◌∙◌, subst, All, length, Err}
 use Rattle.std.proofs.lemmas.List.{length-map}
 use Rattle.strc_graph.specs.NodeView.{graph_view, channel_view}
-use Rattle.strc_order.specs.Firings.{none_fired}
-use Rattle.strc_order.specs.Greedy.{firings_of}
-use Rattle.strc_order.specs.Order.{firing_count}
-use Rattle.strc_order.specs.Peaks.{AreRaised, HasNodes}
-use Rattle.strc_order.specs.Schedules.{ScheduleParts}
-use Rattle.strc_order.specs.Sizing.{round_rates_on, PassesOn}
-use Rattle.strc_rounds.specs.FusedUnits.{AreFused}
-use Rattle.strc_rounds.proofs.Exchange.{same_round}
+use Rattle.strc_schedule.specs.Firings.{none_fired}
+use Rattle.strc_schedule.specs.Greedy.{firings_of}
+use Rattle.strc_schedule.specs.Order.{firing_count}
+use Rattle.strc_schedule.specs.Peaks.{AreRaised, HasNodes}
+use Rattle.strc_schedule.specs.Schedules.{ScheduleParts}
+use Rattle.strc_schedule.specs.Sizing.{round_rates_on, PassesOn}
+use Rattle.strc_dataflow.specs.FusedUnits.{AreFused}
+use Rattle.strc_dataflow.proofs.Exchange.{same_round}
 use Rattle.strc_graph.specs.Meaning.{node_meaning}
 use Rattle.strc_fuse.specs.Units.{is_free, round_units}
 use Rattle.strc_fuse.specs.declared.error.FuseError.TheVariants as refused

@@ -1,6 +1,6 @@
 use Rattle.std.proofs.Common.{◌≡◌, ◌+◌, ◌*◌, ℕ, length, take}
 use Rattle.strc_balance.specs.Balance.{count_at}
-use Rattle.strc_order.specs.Order.{firing_count}
+use Rattle.strc_schedule.specs.Order.{firing_count}
 use Rattle.strc_launch.proofs.counting.add_unit.Given as goal
 
 abbrev pub invariant-loop-node : goal.invariant-loop-node

@@ -1,7 +1,7 @@
 use Rattle.std.proofs.Common.{◌≡◌, ◌+◌, ℕ, length, take}
 use Rattle.strc_balance.specs.Balance.{count_at}
-use Rattle.strc_order.specs.Greedy.{firings_of}
-use Rattle.strc_order.specs.Order.{firing_count}
+use Rattle.strc_schedule.specs.Greedy.{firings_of}
+use Rattle.strc_schedule.specs.Order.{firing_count}
 use Rattle.strc_launch.proofs.counting.add_units.Given as goal
 
 abbrev pub invariant-loop-unit : goal.invariant-loop-unit

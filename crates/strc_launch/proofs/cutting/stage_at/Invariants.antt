@@ -1,5 +1,5 @@
 use Rattle.std.proofs.Common.{◌≡◌}
-use Rattle.strc_staging.specs.Ranges.{stage_within}
+use Rattle.strc_dataflow.specs.Ranges.{stage_within}
 use Rattle.strc_launch.specs.Bounds.{bound_in}
 use Rattle.strc_launch.proofs.cutting.stage_at.Given as goal
 

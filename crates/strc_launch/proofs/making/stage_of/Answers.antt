@@ -3,16 +3,16 @@ use Rattle.std.proofs.Common.{arith, true≢false, List}
 use Rattle.std.proofs.lemmas.List.{length-map}
 use Rattle.strc_graph.specs.NodeView.{GraphParts, graph_view}
 use Rattle.strc_graph.specs.Tapes.{tape_nodes}
-use Rattle.strc_order.specs.Greedy.{firings_of}
-use Rattle.strc_order.specs.Schedules.{ScheduleParts}
-use Rattle.strc_order.specs.declared.unit as units
-use Rattle.strc_circuit.specs.Circuits.{circuit_view}
-use Rattle.strc_circuit.specs.Parts.{IsPartCircuit}
-use Rattle.strc_circuit.specs.Units.{unit_views}
-use Rattle.strc_circuit.proofs.UnitLists.{same_firings}
+use Rattle.strc_schedule.specs.Greedy.{firings_of}
+use Rattle.strc_schedule.specs.Schedules.{ScheduleParts}
+use Rattle.strc_schedule.specs.declared.unit as units
+use Rattle.strc_rings.specs.Circuits.{circuit_view}
+use Rattle.strc_rings.specs.Parts.{IsPartCircuit}
+use Rattle.strc_rings.specs.Units.{unit_views}
+use Rattle.strc_rings.proofs.UnitLists.{same_firings}
 use Rattle.strc_fuse.specs.Units.{round_units}
-use Rattle.strc_cut.specs.Cuts.{IsBetweenUnits, firings_within, segment_of, units_within}
-use Rattle.strc_cut.proofs.StageUnits.{segments_are_units}
+use Rattle.strc_stage.specs.Cuts.{IsBetweenUnits, firings_within, segment_of, units_within}
+use Rattle.strc_stage.proofs.StageUnits.{segments_are_units}
 use Rattle.strc_admissible.specs.Laws.{round_order}
 use Rattle.strc_runner.specs.Actors.{fields_of}
 use Rattle.strc_runner.specs.Parts.{HoldsFrom, IsPart, IsRest}

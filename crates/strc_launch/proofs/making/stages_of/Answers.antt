@@ -1,6 +1,6 @@
 use Rattle.std.proofs.Common.{◌≡◌, ◌∙◌, ap, subst, ◌+◌, ◌≤◌, ℕ, suc, length, arith}
 use Rattle.std.proofs.lemmas.List.{length_push}
-use Rattle.strc_circuit.specs.Circuits.{circuit_view}
+use Rattle.strc_rings.specs.Circuits.{circuit_view}
 use Rattle.strc_runner.specs.Parts.{HoldsFrom, IsRest}
 use Rattle.strc_runner.specs.Running.{machine_view}
 use Rattle.strc_stage.specs.Plans.{transformed_of}

@@ -1,5 +1,5 @@
 use Rattle.std.proofs.Common.{◌≡◌, length}
-use Rattle.strc_circuit.specs.Circuits.{circuit_view}
+use Rattle.strc_rings.specs.Circuits.{circuit_view}
 use Rattle.strc_graph.specs.NodeView.{graph_view}
 use Rattle.strc_runner.specs.Parts.{HoldsFrom, IsRest}
 use Rattle.strc_runner.specs.Running.{machine_view}

@@ -2,7 +2,7 @@ use Rattle.std.proofs.Common.{◌∙◌, sym, ap, subst, length}
 use Rattle.std.proofs.lemmas.List.{length-map}
 use Rattle.strc_graph.specs.NodeView.{GraphParts, channel_view, graph_view}
 use Rattle.strc_admissible.specs.Circuits.{IsCircuit}
-use Rattle.strc_circuit.specs.Circuits.{circuit_view}
+use Rattle.strc_rings.specs.Circuits.{circuit_view}
 use Rattle.strc_runner.specs.Running.{machine_view}
 use Rattle.strc_launch.proofs.Started.{has_dealt, parts_have_origins, parts_start}
 use Rattle.strc_launch.proofs.startup.dealt.Goals as goal

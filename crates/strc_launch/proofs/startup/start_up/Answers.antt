@@ -1,9 +1,9 @@
 use Rattle.std.proofs.Common.{◌∙◌, sym, ap, subst, ℕ, List, Err}
 use Rattle.strc_graph.specs.NodeView.{GraphParts, graph_view}
-use Rattle.strc_order.specs.Greedy.{firings_of}
-use Rattle.strc_order.specs.Schedules.{ScheduleParts}
+use Rattle.strc_schedule.specs.Greedy.{firings_of}
+use Rattle.strc_schedule.specs.Schedules.{ScheduleParts}
 use Rattle.strc_admissible.specs.Machine.{order_run}
-use Rattle.strc_circuit.specs.Circuits.{circuit_view}
+use Rattle.strc_rings.specs.Circuits.{circuit_view}
 use Rattle.strc_runner.specs.Actors.{AreStartable}
 use Rattle.strc_runner.specs.Running.{HasGone, machine_view}
 use Rattle.strc_runner.proofs.Startable.{all_start}

@@ -1,6 +1,6 @@
 use Rattle.std.proofs.Common.{◌≡◌, ◌++◌, drop}
-use Rattle.strc_circuit.specs.Units.{unit_views}
-use Rattle.strc_cut.specs.Cuts.{units_within}
+use Rattle.strc_rings.specs.Units.{unit_views}
+use Rattle.strc_stage.specs.Cuts.{units_within}
 use Rattle.strc_launch.proofs.units.units_within.Given as goal
 
 abbrev pub invariant-loop-number : goal.invariant-loop-number

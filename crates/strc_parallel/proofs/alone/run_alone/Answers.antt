@@ -1,7 +1,7 @@
 use Rattle.std.proofs.Common.{◌∙◌, ap, subst, map, IfOk}
 use Rattle.strc_dataflow.specs.Answer.{Outcome.StartupFault}
 use Rattle.strc_graph.specs.NodeView.{GraphParts, node_view}
-use Rattle.strc_circuit.specs.Circuits.{circuit_view}
+use Rattle.strc_rings.specs.Circuits.{circuit_view}
 use Rattle.strc_runner.specs.Running.{machine_view}
 use Rattle.strc_launch.specs.Startups.{HasFaulted, IsStartup}
 use Rattle.strc_parallel.specs.Answers.{IsTold, stop_at}

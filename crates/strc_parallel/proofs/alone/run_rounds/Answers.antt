@@ -1,9 +1,9 @@
 use Rattle.std.proofs.Common.{◌∙◌, ap, subst, List}
-use Rattle.strc_order.specs.Greedy.{firings_of}
-use Rattle.strc_order.specs.Schedules.{ScheduleParts}
-use Rattle.strc_order.specs.declared.unit as units
+use Rattle.strc_schedule.specs.Greedy.{firings_of}
+use Rattle.strc_schedule.specs.Schedules.{ScheduleParts}
+use Rattle.strc_schedule.specs.declared.unit as units
 use Rattle.strc_admissible.specs.Machine.{rounds_run}
-use Rattle.strc_circuit.specs.Circuits.{circuit_view}
+use Rattle.strc_rings.specs.Circuits.{circuit_view}
 use Rattle.strc_runner.specs.Running.{machine_view}
 use Rattle.strc_sched.specs.Plain.{IsEnding}
 use Rattle.strc_parallel.proofs.alone.run_rounds.Goals as goal

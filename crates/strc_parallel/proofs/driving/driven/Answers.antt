@@ -1,6 +1,6 @@
 use Rattle.std.proofs.Common.{◌∙◌, sym, ap, subst}
-use Rattle.strc_pipe.specs.Pipes.{IsStateOf, IsSomeState}
-use Rattle.strc_pipe.specs.Seeing.{core_of}
+use Rattle.strc_stages.specs.Pipes.{IsStateOf, IsSomeState}
+use Rattle.strc_stages.specs.Seeing.{core_of}
 use Rattle.strc_stages.specs.Collectors.{sees}
 use Rattle.strc_stages.specs.Stages.{see}
 use Rattle.strc_parallel.proofs.SameRings.{same_core}

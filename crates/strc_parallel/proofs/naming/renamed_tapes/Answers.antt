@@ -1,6 +1,6 @@
 use Rattle.std.proofs.Common.{◌≡◌, ◌∙◌, sym, ap, ◌<◌, List, map, get_or, set, length, arith}
 use Rattle.std.proofs.lemmas.List.{get_or-map, length-map, length-set, map-set}
-use Rattle.strc_outcome.specs.Tapes.{TapeView, tape_view}
+use Rattle.strc_refusal.specs.Tapes.{TapeView, tape_view}
 use Rattle.strc_parallel.specs.Naming.{renamed_tape}
 use Rattle.strc_parallel.proofs.Replaced.{read_here, replaced}
 use Rattle.strc_parallel.proofs.naming.renamed_tapes.Goals as goal

@@ -1,5 +1,5 @@
 use Rattle.std.proofs.Common.{◌≡◌, ◌++◌, length, map, take, drop}
-use Rattle.strc_outcome.specs.Tapes.{tape_view}
+use Rattle.strc_refusal.specs.Tapes.{tape_view}
 use Rattle.strc_parallel.specs.Naming.{renamed_tape}
 use Rattle.strc_parallel.proofs.naming.renamed_tapes.Given as goal
 

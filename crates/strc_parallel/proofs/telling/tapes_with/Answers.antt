@@ -3,7 +3,7 @@ use Rattle.std.proofs.Common.{◌<◌}
 use Rattle.std.proofs.lemmas.List.{length-map, get_or-map}
 use Rattle.strc_graph.specs.Graphs.{NodeCode, Identity}
 use Rattle.strc_graph.specs.NodeView.{node_view}
-use Rattle.strc_outcome.specs.Tapes.{tape_view}
+use Rattle.strc_refusal.specs.Tapes.{tape_view}
 use Rattle.strc_parallel.specs.Telling.{added, tapes_by}
 use Rattle.strc_parallel.proofs.Tapes.{one_more, no_less}
 use Rattle.strc_parallel.proofs.telling.tapes_with.Goals as goal

@@ -1,6 +1,6 @@
 use Rattle.std.proofs.Common.{◌≡◌, ◌++◌, ◌≤◌, ℕ, [], length, map, drop, slice_index_or, vec_items}
 use Rattle.strc_graph.specs.NodeView.{node_view}
-use Rattle.strc_outcome.specs.Tapes.{tape_view}
+use Rattle.strc_refusal.specs.Tapes.{tape_view}
 use Rattle.strc_parallel.specs.Telling.{tapes_by, tapes_from}
 use Rattle.strc_parallel.proofs.telling.tapes_with.Given as goal
 

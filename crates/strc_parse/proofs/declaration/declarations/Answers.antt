@@ -8,7 +8,7 @@ use Rattle.strc_grammar.specs.Reading.{one_more}
 use Rattle.strc_grammar.specs.Streams.{at_end, declaration, declarations}
 use Rattle.strc_grammar.proofs.Repeated.{Fails-then, end_reached, end_ahead}
 use Rattle.strc_grammar.proofs.ProgramSoundness.{declaration_shorter}
-use Rattle.strc_rules.proofs.Loops.{goes_on, goes_to, goes_wrong}
+use Rattle.strc_grammar.proofs.Loops.{goes_on, goes_to, goes_wrong}
 use Rattle.strc_parse.proofs.declaration.declarations.Goals as goal
 
 pub loop-rest-init : goal.loop-rest-init

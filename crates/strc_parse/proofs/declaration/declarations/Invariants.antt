@@ -3,7 +3,7 @@ use Rattle.strc_syntax.specs.View.{declaration_view}
 use Rattle.strc_grammar.specs.Grammar.{kinds, height_limit}
 use Rattle.strc_grammar.specs.Reading.{one_more}
 use Rattle.strc_grammar.specs.Streams.{declarations, at_end, declaration}
-use Rattle.strc_rules.proofs.Loops.{Going}
+use Rattle.strc_grammar.proofs.Loops.{Going}
 use Rattle.strc_parse.proofs.declaration.declarations.Given as goal
 
 abbrev pub invariant-loop-rest : goal.invariant-loop-rest

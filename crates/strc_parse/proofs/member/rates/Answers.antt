@@ -8,7 +8,7 @@ use Rattle.strc_syntax.specs.View.{expr_view, rate_view}
 use Rattle.strc_grammar.specs.Grammar.{kinds}
 use Rattle.strc_grammar.specs.Streams.{no_rate, rate_turn, rate_kind, rates}
 use Rattle.strc_grammar.proofs.Repeated.{no_rate_ends, no_rate_stays, rate_turn_at, rate_turn_fails}
-use Rattle.strc_rules.proofs.Loops.{goes_on, goes_to, goes_wrong}
+use Rattle.strc_grammar.proofs.Loops.{goes_on, goes_to, goes_wrong}
 use Rattle.strc_parse.proofs.RateViews.{rate_shorter}
 use Rattle.strc_parse.proofs.member.rates.Goals as goal
 
@@ -47,7 +47,11 @@ loop-kind-preserved c =
     let kind_is : rate_kind (kinds c.loop-kind.rest.now) ≡ Some c.in-Some.kind =
     sym c.rate_kind.ensures ∙ c.in-Some.is in
     let read = rw c.deref.ensures.value at c.in_ok-rate.ensures in
-    let made : RateTree = record { kind = c.in-Some.kind; rate = c.in_ok-rate.rate.value } in
+    let made : RateTree = record {
+      kind = c.in-Some.kind;
+      rate = c.in_ok-rate.rate.value;
+      place = c.span_of.result;
+    } in
     let next : tree.Rate = record {
       kind = c.in-Some.kind;
       rate =

@@ -2,7 +2,7 @@ use Rattle.std.proofs.Common.{length, map}
 use Rattle.strc_syntax.specs.View.{rate_view}
 use Rattle.strc_grammar.specs.Grammar.{kinds}
 use Rattle.strc_grammar.specs.Streams.{rates, no_rate, rate_turn}
-use Rattle.strc_rules.proofs.Loops.{Going}
+use Rattle.strc_grammar.proofs.Loops.{Going}
 use Rattle.strc_parse.proofs.member.rates.Given as goal
 
 abbrev pub invariant-loop-kind : goal.invariant-loop-kind

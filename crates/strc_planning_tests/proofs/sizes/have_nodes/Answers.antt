@@ -2,7 +2,7 @@ use Rattle.std.proofs.Common.{sym, subst, ◌<◌, All, true, take, rules}
 use Rattle.std.specs.Prelude.{IsTrue}
 use Rattle.std.proofs.lemmas.List.{take_all, take_more}
 use Rattle.std.proofs.lemmas.List.Elements.{All-push}
-use Rattle.strc_order.specs.Peaks.{HasNodes}
+use Rattle.strc_schedule.specs.Peaks.{HasNodes}
 use Rattle.strc_planning_tests.proofs.sizes.have_nodes.Goals as goal
 
 pub loop-unit-preserved : goal.loop-unit-preserved

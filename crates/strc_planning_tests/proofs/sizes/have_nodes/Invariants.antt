@@ -1,5 +1,5 @@
 use Rattle.std.proofs.Common.{take, All}
-use Rattle.strc_order.specs.Peaks.{HasNodes}
+use Rattle.strc_schedule.specs.Peaks.{HasNodes}
 use Rattle.strc_planning_tests.proofs.sizes.have_nodes.Given as goal
 
 abbrev pub invariant-loop-unit : goal.invariant-loop-unit

@@ -1,4 +1,4 @@
-use Rattle.strc_circuit.specs.Circuits.{circuit_view}
+use Rattle.strc_rings.specs.Circuits.{circuit_view}
 use Rattle.strc_runner.specs.Running.{IsMachine}
 use Rattle.strc_planning_tests.proofs.splits.written.Given as goal
 

@@ -1,5 +1,5 @@
 use Rattle.std.proofs.Common.{◌≡◌, take, map}
-use Rattle.strc_peeks.specs.Peeks.{is_closed}
+use Rattle.strc_rate.specs.Peeks.{is_closed}
 use Rattle.strc_rate.proofs.rates.closed_of.Given as goal
 
 abbrev pub invariant-loop-sight : goal.invariant-loop-sight

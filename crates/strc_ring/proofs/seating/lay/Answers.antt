@@ -1,6 +1,6 @@
 use Rattle.std.proofs.Common.{◌++◌, ◌∙◌, append-nil, sym, ap}
 use Rattle.std.specs.Vec.Iter.{into_iter_items}
-use Rattle.strc_link.specs.Ends.{sent_by}
+use Rattle.strc_ring.specs.Ends.{sent_by}
 use Rattle.strc_ring.proofs.Iterating.{one_less, one_on, none}
 use Rattle.strc_ring.proofs.seating.lay.Goals as goal
 

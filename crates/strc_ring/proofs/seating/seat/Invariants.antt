@@ -1,6 +1,6 @@
 use Rattle.std.proofs.Common.{◌≡◌, ◌++◌, [], length}
 use Rattle.std.specs.Vec.Iter.{into_iter_items, into_iter_len}
-use Rattle.strc_link.specs.Ends.{got_by}
+use Rattle.strc_ring.specs.Ends.{got_by}
 use Rattle.strc_ring.specs.Seats.{Linked, stages_of}
 use Rattle.strc_ring.proofs.seating.seat.Given as goal
 

@@ -1,6 +1,6 @@
 use Rattle.std.proofs.Common.{rules, refl}
 use Rattle.std.specs.Vec.Iter.{into_iter_items}
-use Rattle.strc_link.specs.Ends.{sent_by}
+use Rattle.strc_ring.specs.Ends.{sent_by}
 use Rattle.strc_ring.specs.declared.shapes.Part.{Part}
 use Rattle.strc_ring.proofs.Iterating.{one_less, none}
 use Rattle.strc_ring.proofs.Chains.{begins, link_there, next_settling, settled}

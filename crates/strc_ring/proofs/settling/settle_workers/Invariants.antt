@@ -1,6 +1,6 @@
 use Rattle.std.proofs.Common.{◌≡◌, length}
 use Rattle.std.specs.Vec.Iter.{into_iter_items, into_iter_len}
-use Rattle.strc_link.specs.Ends.{sent_by}
+use Rattle.strc_ring.specs.Ends.{sent_by}
 use Rattle.strc_ring.specs.Seats.{Settling}
 use Rattle.strc_ring.proofs.settling.settle_workers.Given as goal
 

@@ -10,7 +10,7 @@ use Rattle.strc_run.specs.Verdicts.{IsRefusal}
 use Rattle.strc_run.proofs.Refusals.{elaboration_refused, graph_refused, rates_refused}
 use Rattle.strc_run.proofs.Refusals.{balance_refused, startup_refused, schedule_refused}
 use Rattle.strc_run.proofs.Refusals.{plan_reported, refusal_reported, transformation_refused}
-use Rattle.strc_run.proofs.Refusals.{which_deadlock}
+use Rattle.strc_run.proofs.Refusals.{refusal_told, which_deadlock}
 use Rattle.strc_run.proofs.RatedGraphs.{IsChecked, flat_is_rated, stream_checked}
 use Rattle.strc_balance.specs.Balance.{count_at}
 use Rattle.strc_run.proofs.PlannedGraphs.{graph_has_plan}
@@ -22,117 +22,117 @@ returns-in_err-stream c = λ text spells.
     (refusal_of c.in_err-stream.field-0.0) c.from_residual.ensures.1
     (elaboration_refused _ _ _ spells c.in_err-stream.field-0.0 c.in_err-stream.ensures.verdict)
 
-pub returns-in_err-graph : goal.returns-in_err-graph
-returns-in_err-graph c = λ text spells.
+pub returns-in-Err : goal.returns-in-Err
+returns-in-Err c = λ text spells.
     let elaborates = c.in_ok-stream.ensures.verdict in
     let sound = c.in_ok-stream.ensures.sound in
-    refusal_reported _ _ c.from_residual-in_err-graph.result
-    (refusal_of c.in_err-graph.field-0.0) c.from_residual-in_err-graph.ensures.1
-    (graph_refused _ _ _ spells _ elaborates c.in_err-graph.field-0.0
-    (c.in_err-graph.ensures.verdict sound.closed.typed))
+    refusal_told _ _ _
+    (refusal_of c.in-Err.error) (c.of_stream.ensures ∙ c.from.ensures)
+    (graph_refused _ _ _ spells _ elaborates c.in-Err.error
+    (c.in-Err.ensures.verdict sound.closed.typed))
 
-pub returns-in_err-check_rates : goal.returns-in_err-check_rates
-returns-in_err-check_rates c = λ text spells.
+pub returns-in-Err-check_rates : goal.returns-in-Err-check_rates
+returns-in-Err-check_rates c = λ text spells.
     let elaborates = c.in_ok-stream.ensures.verdict in
     let sound = c.in_ok-stream.ensures.sound in
-    let same = ap (map node_view) c.nodes.ensures ∙ c.in_ok-graph.ensures.nodes in
-    refusal_reported _ _ c.from_residual-in_err-check_rates.result c.in_err-check_rates.field-0.0
-    c.from_residual-in_err-check_rates.ensures.1
+    let same = ap (map node_view) c.nodes.ensures ∙ c.in-Ok.ensures.nodes in
+    refusal_told _ _ _ c.in-Err-check_rates.refusal
+    (c.of_graph.ensures)
     (rates_refused _ _ _ spells (stream_view c.in_ok-stream.stream) elaborates
-    c.in_err-check_rates.field-0.0
-    (c.in_ok-graph.ensures.verdict sound.closed.typed)
-    (subst (λ (l : List NodeCode). IsRefusal (rates_checked 0 l) c.in_err-check_rates.field-0.0)
-    same c.in_err-check_rates.ensures))
+    c.in-Err-check_rates.refusal
+    (c.in-Ok.ensures.verdict sound.closed.typed)
+    (subst (λ (l : List NodeCode). IsRefusal (rates_checked 0 l) c.in-Err-check_rates.refusal)
+    same c.in-Err-check_rates.ensures))
 
 pub balance-requires-clause-rates : goal.balance-requires-clause-rates
 balance-requires-clause-rates c =
     flat_is_rated c.nodes_deal.ensures
-    (stream_view c.in_ok-stream.stream) (graph_view c.in_ok-graph.graph)
-    c.in_ok-stream.ensures.sound c.in_ok-graph.ensures.graph c.in_ok-graph.ensures.nodes
+    (stream_view c.in_ok-stream.stream) (graph_view c.in-Ok.graph)
+    c.in_ok-stream.ensures.sound c.in-Ok.ensures.graph c.in-Ok.ensures.nodes
     (ap (rates_checked 0) (sym (ap (map node_view) c.nodes.ensures))
-    ∙ c.in_ok-check_rates.ensures)
+    ∙ c.in_default.ensures)
 
 pub balance-requires-clause-connected : goal.balance-requires-clause-connected
 balance-requires-clause-connected c =
     let sound = c.in_ok-stream.ensures.sound in
-    c.in_ok-graph.ensures.connected sound.closed.typed
+    c.in-Ok.ensures.connected sound.closed.typed
 
-pub returns-in_err-round_counts : goal.returns-in_err-round_counts
-returns-in_err-round_counts c = λ text spells.
+pub returns-in-Err-balance : goal.returns-in-Err-balance
+returns-in-Err-balance c = λ text spells.
     let elaborates = c.in_ok-stream.ensures.verdict in
     let sound = c.in_ok-stream.ensures.sound in
     let rates = ap (rates_checked 0) (sym
-    (ap (map node_view) c.nodes.ensures ∙ c.in_ok-graph.ensures.nodes))
-    ∙ c.in_ok-check_rates.ensures in
-    refusal_reported _ _ c.from_residual-in_err-round_counts.result
-    (balance_refusal_of c.in_err-round_counts.field-0.0)
-    c.from_residual-in_err-round_counts.ensures.1
+    (ap (map node_view) c.nodes.ensures ∙ c.in-Ok.ensures.nodes))
+    ∙ c.in_default.ensures in
+    refusal_told _ _ _
+    (balance_refusal_of c.in-Err-balance.error)
+    (c.of_graph-in-Err-balance.ensures ∙ c.from-in-Err-balance.ensures)
     (balance_refused _ _ _ spells (stream_view c.in_ok-stream.stream) elaborates
-    (graph_view c.in_ok-graph.graph)
-    (c.in_ok-graph.ensures.verdict sound.closed.typed) rates
-    (c.in_ok-graph.ensures.graph sound.closed.typed) c.in_err-round_counts.field-0.0
-    c.in_err-round_counts.ensures.verdict
-    (λ channel is. c.in_err-round_counts.ensures.inconsistent channel (ap Err is)))
+    (graph_view c.in-Ok.graph)
+    (c.in-Ok.ensures.verdict sound.closed.typed) rates
+    (c.in-Ok.ensures.graph sound.closed.typed) c.in-Err-balance.error
+    c.in-Err-balance.ensures.verdict
+    (λ channel is. c.in-Err-balance.ensures.inconsistent channel (ap Err is)))
 
 pub startup-requires : goal.startup-requires
 startup-requires c =
     flat_is_rated c.nodes_deal.ensures
-    (stream_view c.in_ok-stream.stream) (graph_view c.in_ok-graph.graph)
-    c.in_ok-stream.ensures.sound c.in_ok-graph.ensures.graph c.in_ok-graph.ensures.nodes
+    (stream_view c.in_ok-stream.stream) (graph_view c.in-Ok.graph)
+    c.in_ok-stream.ensures.sound c.in-Ok.ensures.graph c.in-Ok.ensures.nodes
     (ap (rates_checked 0) (sym (ap (map node_view) c.nodes.ensures))
-    ∙ c.in_ok-check_rates.ensures)
+    ∙ c.in_default.ensures)
 
-pub returns-in_err-startup_counts : goal.returns-in_err-startup_counts
-returns-in_err-startup_counts c = λ text spells.
+pub returns-in-Err-startup : goal.returns-in-Err-startup
+returns-in-Err-startup c = λ text spells.
     let elaborates = c.in_ok-stream.ensures.verdict in
     let sound = c.in_ok-stream.ensures.sound in
     let rates = ap (rates_checked 0) (sym
-    (ap (map node_view) c.nodes.ensures ∙ c.in_ok-graph.ensures.nodes))
-    ∙ c.in_ok-check_rates.ensures in
-    refusal_reported _ _ c.from_residual-in_err-startup_counts.result
-    (startup_refusal_of c.in_err-startup_counts.field-0.0)
-    c.from_residual-in_err-startup_counts.ensures.1
+    (ap (map node_view) c.nodes.ensures ∙ c.in-Ok.ensures.nodes))
+    ∙ c.in_default.ensures in
+    refusal_told _ _ _
+    (startup_refusal_of c.in-Err-startup.error)
+    (c.of_graph-in-Err-startup.ensures ∙ c.from-in-Err-startup.ensures)
     (startup_refused _ _ _ spells (stream_view c.in_ok-stream.stream) elaborates
-    (graph_view c.in_ok-graph.graph)
-    (c.in_ok-graph.ensures.verdict sound.closed.typed) rates
-    (c.in_ok-graph.ensures.graph sound.closed.typed) c.in_ok-round_counts.round_counts
-    c.in_ok-round_counts.ensures.verdict c.in_err-startup_counts.field-0.0
-    (λ is. c.in_err-startup_counts.ensures.unbounded (ap Err is)))
+    (graph_view c.in-Ok.graph)
+    (c.in-Ok.ensures.verdict sound.closed.typed) rates
+    (c.in-Ok.ensures.graph sound.closed.typed) c.in-Ok-balance.counts
+    c.in-Ok-balance.ensures.verdict c.in-Err-startup.error
+    (λ is. c.in-Err-startup.ensures.unbounded (ap Err is)))
 
 pub schedule-requires-clause-rated : goal.schedule-requires-clause-rated
 schedule-requires-clause-rated c =
     flat_is_rated c.nodes_deal.ensures
-    (stream_view c.in_ok-stream.stream) (graph_view c.in_ok-graph.graph)
-    c.in_ok-stream.ensures.sound c.in_ok-graph.ensures.graph c.in_ok-graph.ensures.nodes
+    (stream_view c.in_ok-stream.stream) (graph_view c.in-Ok.graph)
+    c.in_ok-stream.ensures.sound c.in-Ok.ensures.graph c.in-Ok.ensures.nodes
     (ap (rates_checked 0) (sym (ap (map node_view) c.nodes.ensures))
-    ∙ c.in_ok-check_rates.ensures)
+    ∙ c.in_default.ensures)
 
 pub schedule-requires-clause-connected : goal.schedule-requires-clause-connected
 schedule-requires-clause-connected c =
     let sound = c.in_ok-stream.ensures.sound in
-    c.in_ok-graph.ensures.connected sound.closed.typed
+    c.in-Ok.ensures.connected sound.closed.typed
 
-pub returns-in_err-schedule : goal.returns-in_err-schedule
-returns-in_err-schedule c = λ text spells.
+pub returns-in-Err-schedule : goal.returns-in-Err-schedule
+returns-in-Err-schedule c = λ text spells.
     let elaborates = c.in_ok-stream.ensures.verdict in
     let sound = c.in_ok-stream.ensures.sound in
     let rates = ap (rates_checked 0) (sym
-    (ap (map node_view) c.nodes.ensures ∙ c.in_ok-graph.ensures.nodes))
-    ∙ c.in_ok-check_rates.ensures in
-    let graph = graph_view c.in_ok-graph.graph in
-    let counts = c.in_ok-round_counts.round_counts in
-    let startup = c.in_ok-startup_counts.startup_counts in
-    let broken = c.in_err-schedule.field-0.0 in
-    let reported = c.in_err-schedule.ensures in
-    refusal_reported _ _ c.from_residual-in_err-schedule.result (schedule_refusal_of broken)
-    c.from_residual-in_err-schedule.ensures.1
+    (ap (map node_view) c.nodes.ensures ∙ c.in-Ok.ensures.nodes))
+    ∙ c.in_default.ensures in
+    let graph = graph_view c.in-Ok.graph in
+    let counts = c.in-Ok-balance.counts in
+    let startup = c.in-Ok-startup.counts in
+    let broken = c.in-Err-schedule.error in
+    let reported = c.in-Err-schedule.ensures in
+    refusal_told _ _ _ (schedule_refusal_of broken)
+    (c.of_graph-in-Err-schedule.ensures ∙ c.from-in-Err-schedule.ensures)
     (schedule_refused _ _ _ spells (stream_view c.in_ok-stream.stream) elaborates graph
-    (c.in_ok-graph.ensures.verdict sound.closed.typed) rates
-    (c.in_ok-graph.ensures.graph sound.closed.typed) counts
-    c.in_ok-round_counts.ensures.verdict startup broken
+    (c.in-Ok.ensures.verdict sound.closed.typed) rates
+    (c.in-Ok.ensures.graph sound.closed.typed) counts
+    c.in-Ok-balance.ensures.verdict startup broken
     (record {
-      least = c.in_ok-startup_counts.ensures.least;
-      within = c.in_ok-startup_counts.ensures.within;
+      least = c.in-Ok-startup.ensures.least;
+      within = c.in-Ok-startup.ensures.within;
     })
     (which_deadlock graph startup counts broken (λ is. reported.startup (ap Err is))
     (λ is. (reported.before (ap Err is), reported.round (ap Err is))))
@@ -140,105 +140,105 @@ returns-in_err-schedule c = λ text spells.
 
 pub transformed-requires : goal.transformed-requires
 transformed-requires c =
-    let counts = c.in_ok-round_counts.ensures in
-    c.schedules_can_be_fused.ensures (graph_view c.in_ok-graph.graph)
-    (count_at c.in_ok-startup_counts.startup_counts) c.in_ok-round_counts.round_counts
-    c.in_ok-schedule.schedule c.in_ok-schedule.ensures.schedule
+    let counts = c.in-Ok-balance.ensures in
+    c.schedules_can_be_fused.ensures (graph_view c.in-Ok.graph)
+    (count_at c.in-Ok-startup.counts) c.in-Ok-balance.counts
+    c.in-Ok-schedule.schedule c.in-Ok-schedule.ensures.schedule
     (omega (arith, counts.least.balances.each))
 
-pub returns-in_err-split : goal.returns-in_err-split
-returns-in_err-split c = λ text spells.
+pub returns-in-Err-transformed : goal.returns-in-Err-transformed
+returns-in-Err-transformed c = λ text spells.
     let elaborates = c.in_ok-stream.ensures.verdict in
     let sound = c.in_ok-stream.ensures.sound in
     let rates = ap (rates_checked 0) (sym
-    (ap (map node_view) c.nodes.ensures ∙ c.in_ok-graph.ensures.nodes))
-    ∙ c.in_ok-check_rates.ensures in
-    let broken = c.in_err-split.field-0.0 in
-    refusal_reported _ _ c.from_residual-in_err-split.result broken
-    c.from_residual-in_err-split.ensures.1
+    (ap (map node_view) c.nodes.ensures ∙ c.in-Ok.ensures.nodes))
+    ∙ c.in_default.ensures in
+    let broken = c.in-Err-transformed.refusal in
+    refusal_told _ _ _ broken
+    (c.of_graph-in-Err-transformed.ensures)
     (transformation_refused _ _ _ spells (stream_view c.in_ok-stream.stream) elaborates
-    (graph_view c.in_ok-graph.graph)
-    (c.in_ok-graph.ensures.verdict sound.closed.typed) rates
-    (c.in_ok-graph.ensures.graph sound.closed.typed) c.in_ok-round_counts.round_counts
-    c.in_ok-round_counts.ensures.verdict c.in_ok-startup_counts.startup_counts
-    c.in_ok-schedule.schedule broken
+    (graph_view c.in-Ok.graph)
+    (c.in-Ok.ensures.verdict sound.closed.typed) rates
+    (c.in-Ok.ensures.graph sound.closed.typed) c.in-Ok-balance.counts
+    c.in-Ok-balance.ensures.verdict c.in-Ok-startup.counts
+    c.in-Ok-schedule.schedule broken
     (record {
-      least = c.in_ok-startup_counts.ensures.least;
-      within = c.in_ok-startup_counts.ensures.within;
+      least = c.in-Ok-startup.ensures.least;
+      within = c.in-Ok-startup.ensures.within;
     })
     (record {
-      is = c.in_ok-schedule.ensures.schedule;
-      within = c.in_ok-schedule.ensures.within;
+      is = c.in-Ok-schedule.ensures.schedule;
+      within = c.in-Ok-schedule.ensures.within;
     })
-    c.in_ok-graph.ensures.loops c.in_err-split.ensures.refused)
+    c.in-Ok.ensures.loops c.in-Err-transformed.ensures.refused)
 
 pub new-requires : goal.new-requires
 new-requires c =
     let sound = c.in_ok-stream.ensures.sound in
-    let graph = graph_view c.in_ok-graph.graph in
-    let nodes = c.in_ok-graph.ensures.nodes in
+    let graph = graph_view c.in-Ok.graph in
+    let nodes = c.in-Ok.ensures.nodes in
     let checks = ap (rates_checked 0) (sym (ap (map node_view) c.nodes.ensures))
-    ∙ c.in_ok-check_rates.ensures in
-    graph_has_plan c.in_ok-graph.graph
+    ∙ c.in_default.ensures in
+    graph_has_plan c.in-Ok.graph
     (subst (AllByRecursion IsChecked) (sym nodes)
     (stream_checked c.nodes_deal.ensures (stream_view c.in_ok-stream.stream) sound
     (ap (rates_checked 0) (sym nodes) ∙ checks)))
-    c.in_ok-schedule.schedule c.in_ok-split.split
-    c.in_ok-startup_counts.startup_counts c.in_ok-round_counts.round_counts
+    c.in-Ok-schedule.schedule c.in-Ok-transformed.split
+    c.in-Ok-startup.counts c.in-Ok-balance.counts
     (flat_is_rated c.nodes_deal.ensures (stream_view c.in_ok-stream.stream) graph sound
-    c.in_ok-graph.ensures.graph nodes checks)
+    c.in-Ok.ensures.graph nodes checks)
     (record {
-      least = c.in_ok-startup_counts.ensures.least;
-      within = c.in_ok-startup_counts.ensures.within;
+      least = c.in-Ok-startup.ensures.least;
+      within = c.in-Ok-startup.ensures.within;
     })
     (record {
-      least = c.in_ok-round_counts.ensures.least;
-      within = c.in_ok-round_counts.ensures.within;
+      least = c.in-Ok-balance.ensures.least;
+      within = c.in-Ok-balance.ensures.within;
     })
     (record {
-      is = c.in_ok-schedule.ensures.schedule;
-      within = c.in_ok-schedule.ensures.within;
+      is = c.in-Ok-schedule.ensures.schedule;
+      within = c.in-Ok-schedule.ensures.within;
     })
     (record {
       stream = stream_view c.in_ok-stream.stream;
       closed = sound.closed;
-      program = c.in_ok-graph.ensures.program sound.closed;
-      connected = c.in_ok-graph.ensures.connected sound.closed.typed;
-      loops = c.in_ok-graph.ensures.loops;
+      program = c.in-Ok.ensures.program sound.closed;
+      connected = c.in-Ok.ensures.connected sound.closed.typed;
+      loops = c.in-Ok.ensures.loops;
     })
     (record {
       ways = c.args.ways;
       threshold = c.args.fuse;
-      transformed = c.in_ok-split.ensures.transformed;
+      transformed = c.in-Ok-transformed.ensures.transformed;
     })
 
 pub returns : goal.returns
 returns c = λ text spells.
     let sound = c.in_ok-stream.ensures.sound in
-    let nodes = c.in_ok-graph.ensures.nodes in
+    let nodes = c.in-Ok.ensures.nodes in
     let checks = ap (rates_checked 0) (sym (ap (map node_view) c.nodes.ensures))
-    ∙ c.in_ok-check_rates.ensures in
+    ∙ c.in_default.ensures in
     plan_reported text _ c.in_ok-plan.plan _ c.in_ok-plan.ensures (record {
       accepted = record {
         program = _;
         spells = spells;
         stream = stream_view c.in_ok-stream.stream;
         elaborates = c.in_ok-stream.ensures.verdict;
-        runs = c.in_ok-graph.ensures.verdict sound.closed.typed;
+        runs = c.in-Ok.ensures.verdict sound.closed.typed;
         rates = ap (rates_checked 0) (sym nodes) ∙ checks;
-        flat = c.in_ok-graph.ensures.graph sound.closed.typed;
-        round = c.in_ok-round_counts.ensures.verdict;
+        flat = c.in-Ok.ensures.graph sound.closed.typed;
+        round = c.in-Ok-balance.ensures.verdict;
         startup = record {
-          least = c.in_ok-startup_counts.ensures.least;
-          within = c.in_ok-startup_counts.ensures.within;
+          least = c.in-Ok-startup.ensures.least;
+          within = c.in-Ok-startup.ensures.within;
         };
         schedule = record {
-          is = c.in_ok-schedule.ensures.schedule;
-          within = c.in_ok-schedule.ensures.within;
+          is = c.in-Ok-schedule.ensures.schedule;
+          within = c.in-Ok-schedule.ensures.within;
         };
-        transformed = c.in_ok-split.ensures.transformed;
-        loops = c.in_ok-graph.ensures.loops;
+        transformed = c.in-Ok-transformed.ensures.transformed;
+        loops = c.in-Ok.ensures.loops;
       };
-      whole = c.in_ok-graph.ensures.program sound.closed;
+      whole = c.in-Ok.ensures.program sound.closed;
       nodes = nodes;
     })

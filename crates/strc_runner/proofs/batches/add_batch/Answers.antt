@@ -1,8 +1,8 @@
 use Rattle.std.proofs.Common.{◌≡◌, ◌∙◌, refl, ap, sym, subst, All, Some, ◌∷◌, [], ◌++◌, arith}
 use Rattle.std.proofs.Common.{rules}
 use Rattle.std.proofs.lemmas.List.Elements.{All-pop, All-push}
-use Rattle.strc_order.specs.Order.{repeated}
-use Rattle.strc_circuit.specs.Circuits.{circuit_view}
+use Rattle.strc_schedule.specs.Order.{repeated}
+use Rattle.strc_rings.specs.Circuits.{circuit_view}
 use Rattle.strc_runner.specs.Batches.{AreBatches, IsBatch, all_firings}
 use Rattle.strc_runner.specs.declared.batches.BatchList.{BatchList}
 use Rattle.strc_runner.proofs.BatchLists.{batch_more, new_list}

@@ -1,6 +1,6 @@
 use Rattle.std.proofs.Common.{◌≡◌, ◌∙◌, refl, ap, sym, subst, All, ◌∷◌, [], ◌++◌, rules}
 use Rattle.std.proofs.lemmas.List.Elements.{All-push}
-use Rattle.strc_circuit.specs.Circuits.{circuit_view}
+use Rattle.strc_rings.specs.Circuits.{circuit_view}
 use Rattle.strc_runner.specs.Batches.{IsBatch, batch_firings}
 use Rattle.strc_runner.proofs.BatchLists.{counts_more, one_more}
 use Rattle.strc_runner.proofs.batches.add_firing.Goals.{in-Some+else-last-node+in_ok-push-2}

@@ -1,6 +1,6 @@
 use Rattle.std.proofs.Common.{◌≡◌, ◌∙◌, ap, sym, subst, ◌∷◌, [], ◌++◌, IfOk, length, arith}
-use Rattle.strc_order.specs.Order.{repeated}
-use Rattle.strc_circuit.specs.Circuits.{circuit_view}
+use Rattle.strc_schedule.specs.Order.{repeated}
+use Rattle.strc_rings.specs.Circuits.{circuit_view}
 use Rattle.strc_runner.specs.Batches.{all_firings, in_circuit}
 use Rattle.strc_runner.proofs.BatchLists.{in_circuit-repeated, list_more, one_alone}
 use Rattle.strc_runner.proofs.BatchLists.{repeated_times}

@@ -1,5 +1,5 @@
 use Rattle.std.proofs.Common.{◌≡◌, All, take}
-use Rattle.strc_circuit.specs.Circuits.{circuit_view}
+use Rattle.strc_rings.specs.Circuits.{circuit_view}
 use Rattle.strc_runner.specs.Batches.{IsBatch, batch_firings, in_circuit}
 use Rattle.strc_runner.proofs.batches.listed.Given as goal
 

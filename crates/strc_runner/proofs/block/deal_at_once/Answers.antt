@@ -8,7 +8,7 @@ use Rattle.strc_graph.specs.declared.graph.Splitter.TheVariants as splitter
 use Rattle.strc_admissible.specs.Rings.{at_port, dealt_out, gathered_in, items_at}
 use Rattle.strc_admissible.specs.Wiring.{ports_at}
 use Rattle.strc_rings.specs.Turns.{FindsCycles, HasTurned}
-use Rattle.strc_circuit.specs.Circuits.{circuit_view}
+use Rattle.strc_rings.specs.Circuits.{circuit_view}
 use Rattle.strc_runner.proofs.Done.{code_at}
 use Rattle.strc_runner.proofs.TurnFirings.{deals_pass, joins_pass, keeps_nothing, turned_passed}
 use Rattle.strc_rings.proofs.Turns.{are_placed}

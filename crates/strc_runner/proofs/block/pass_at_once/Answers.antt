@@ -1,4 +1,4 @@
-use Rattle.strc_circuit.specs.Circuits.{circuit_view}
+use Rattle.strc_rings.specs.Circuits.{circuit_view}
 use Rattle.strc_runner.specs.declared.batches.Kind.TheVariants as kind
 use Rattle.strc_runner.proofs.Batching.{known_kind, passed_between}
 use Rattle.strc_runner.proofs.block.pass_at_once.Goals as goal

@@ -1,7 +1,7 @@
 use Rattle.std.proofs.Common.{◌≤◌, subst, length, arith, Err}
 use Rattle.strc_semantics.specs.Filters.{body_prints, filter_of}
 use Rattle.strc_semantics.specs.Firing.{fired}
-use Rattle.strc_inst.specs.Running.{WantsOnlyWords}
+use Rattle.strc_instructions.specs.Running.{WantsOnlyWords}
 use Rattle.strc_work.specs.Answers.{WantsGivenWords}
 use Rattle.strc_admissible.specs.Rings.{items_at}
 use Rattle.strc_runner.proofs.Wanting.{filter_wants}

@@ -2,7 +2,7 @@ use Rattle.std.proofs.Common.{refl, sym, ap, subst, length, arith, Err}
 use Rattle.std.proofs.lemmas.List.{length-take-le}
 use Rattle.strc_semantics.specs.Filters.{body_prints, filter_of}
 use Rattle.strc_semantics.specs.Firing.{fired}
-use Rattle.strc_inst.specs.Running.{WantsOnlyWords}
+use Rattle.strc_instructions.specs.Running.{WantsOnlyWords}
 use Rattle.strc_work.specs.Answers.{WantsGivenWords}
 use Rattle.strc_graph.specs.Rates.{filter_pops}
 use Rattle.strc_admissible.specs.Rings.{items_at}

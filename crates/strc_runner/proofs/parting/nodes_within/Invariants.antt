@@ -1,6 +1,6 @@
 use Rattle.std.proofs.Common.{◌≡◌, ℕ, ◌<◌, false, length}
 use Rattle.std.specs.Prelude.{slice_index_or}
-use Rattle.strc_circuit.specs.Parts as range
+use Rattle.strc_rings.specs.Parts as range
 use Rattle.strc_runner.proofs.parting.nodes_within.Given as goal
 
 abbrev pub invariant-loop-node : goal.invariant-loop-node

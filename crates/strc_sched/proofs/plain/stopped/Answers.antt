@@ -1,5 +1,5 @@
 use Rattle.std.proofs.Common.{refl, sym, subst}
-use Rattle.strc_outcome.specs.declared.outcome.Outcome.TheVariants as outcome
+use Rattle.strc_refusal.specs.declared.outcome.Outcome.TheVariants as outcome
 use Rattle.strc_sched.specs.Marks.{kept_tapes}
 use Rattle.strc_sched.specs.Plain.{IsStopped}
 use Rattle.strc_runner.specs.Running.{words_of}

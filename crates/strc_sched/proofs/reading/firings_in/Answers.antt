@@ -1,5 +1,5 @@
 use Rattle.std.proofs.Common.{◌≡◌, ◌∙◌, ap, ◌*◌, arith}
-use Rattle.strc_order.specs.Order.{firing_count, repeated}
+use Rattle.strc_schedule.specs.Order.{firing_count, repeated}
 use Rattle.strc_sched.proofs.Counting.{firing_count_times}
 use Rattle.strc_sched.proofs.reading.firings_in.Goals as goal
 

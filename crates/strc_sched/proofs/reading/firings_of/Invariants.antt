@@ -1,6 +1,6 @@
 use Rattle.std.proofs.Common.{◌≡◌, take}
-use Rattle.strc_order.specs.Greedy.{firings_of}
-use Rattle.strc_order.specs.Order.{firing_count}
+use Rattle.strc_schedule.specs.Greedy.{firings_of}
+use Rattle.strc_schedule.specs.Order.{firing_count}
 use Rattle.strc_sched.proofs.reading.firings_of.Given as goal
 
 abbrev pub invariant-loop-unit : goal.invariant-loop-unit

@@ -1,6 +1,6 @@
 use Rattle.std.proofs.Common.{◌∙◌, ap, sym, ◌+◌, ◌*◌}
-use Rattle.strc_order.specs.Greedy.{firings_of}
-use Rattle.strc_order.specs.Order.{firing_count}
+use Rattle.strc_schedule.specs.Greedy.{firings_of}
+use Rattle.strc_schedule.specs.Order.{firing_count}
 use Rattle.strc_admissible.specs.Laws.{counts_at, startup_order}
 use Rattle.strc_sched.specs.Reading.{count_of}
 use Rattle.strc_sched.proofs.Counting.{counts_are}

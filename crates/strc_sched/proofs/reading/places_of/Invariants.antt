@@ -1,5 +1,5 @@
 use Rattle.std.proofs.Common.{◌≡◌, ◌≤◌, take}
-use Rattle.strc_order.specs.Order.{firing_count}
+use Rattle.strc_schedule.specs.Order.{firing_count}
 use Rattle.strc_sched.proofs.reading.places_of.Given as goal
 
 abbrev pub invariant-loop-other : goal.invariant-loop-other

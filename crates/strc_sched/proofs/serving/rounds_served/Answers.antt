@@ -1,7 +1,7 @@
 use Rattle.std.proofs.Common.{◌≡◌, ◌∙◌, ap, sym, ◌+◌, ◌*◌, ℕ, map}
 use Rattle.strc_graph.specs.NodeView.{node_view}
-use Rattle.strc_order.specs.Greedy.{firings_of}
-use Rattle.strc_order.specs.Order.{firing_count}
+use Rattle.strc_schedule.specs.Greedy.{firings_of}
+use Rattle.strc_schedule.specs.Order.{firing_count}
 use Rattle.strc_admissible.specs.Laws.{counts_at}
 use Rattle.strc_admissible.specs.Planned.{items_read}
 use Rattle.strc_sched.specs.Reading.{count_of}

@@ -1,5 +1,5 @@
 use Rattle.std.proofs.Common.{◌≡◌, drop}
-use Rattle.strc_parcel.specs.Parcels.{parcel}
+use Rattle.strc_core.specs.Parcels.{parcel}
 use Rattle.strc_staged.specs.Steps.{load_entered}
 use Rattle.strc_stages.proofs.entering.clear_blocks.Given as goal
 

@@ -1,6 +1,6 @@
 use Rattle.std.proofs.Common.{◌∙◌, sym, ap, Some}
 use Rattle.strc_core.specs.Actors.{or_else}
-use Rattle.strc_parcel.specs.Parcels.{ParcelView, parcel, emptied}
+use Rattle.strc_core.specs.Parcels.{ParcelView, parcel, emptied}
 use Rattle.strc_stages.proofs.Collecting.{stopped_back, open_back, no_other}
 use Rattle.strc_stages.proofs.gathering.given_back.Goals as goal
 

@@ -1,5 +1,5 @@
 use Rattle.std.proofs.Common.{◌∙◌, ap}
-use Rattle.strc_parcel.specs.Parcels.{ParcelView, parcel, filled}
+use Rattle.strc_core.specs.Parcels.{ParcelView, parcel, filled}
 use Rattle.strc_stages.proofs.Filling.{filled_twice}
 use Rattle.strc_stages.proofs.leaving.fill_block.Goals as goal
 

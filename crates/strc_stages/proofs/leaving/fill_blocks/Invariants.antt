@@ -1,5 +1,5 @@
 use Rattle.std.proofs.Common.{◌≡◌, drop}
-use Rattle.strc_parcel.specs.Parcels.{parcel}
+use Rattle.strc_core.specs.Parcels.{parcel}
 use Rattle.strc_runner.specs.Running.{machine_view}
 use Rattle.strc_staged.specs.Steps.{load_left}
 use Rattle.strc_stages.proofs.leaving.fill_blocks.Given as goal

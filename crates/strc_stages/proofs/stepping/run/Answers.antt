@@ -1,7 +1,7 @@
 use Rattle.std.proofs.Common.{◌≡◌, ◌∙◌, refl, sym, ap, subst, Option, Some, None}
 use Rattle.strc_core.specs.Actors.{or_else}
-use Rattle.strc_parcel.specs.declared.stop.Stop.{Stop}
-use Rattle.strc_parcel.specs.Parcels.{ParcelView, parcel, emptied}
+use Rattle.strc_core.specs.declared.stop.Stop.{Stop}
+use Rattle.strc_core.specs.Parcels.{ParcelView, parcel, emptied}
 use Rattle.strc_staged.specs.Steps.{with_machine}
 use Rattle.strc_stages.specs.Stages.{see, state_of}
 use Rattle.strc_stages.specs.Stepping.{RunsTo, with_stop}

@@ -1,8 +1,8 @@
 use Rattle.std.proofs.Common.{◌≡◌, ◌∙◌, refl, sym, ap, arith, suc, ◌+◌}
 use Rattle.strc_core.specs.Actors as actors
-use Rattle.strc_parcel.specs.Parcels.{ParcelView, parcel}
+use Rattle.strc_core.specs.Parcels.{ParcelView, parcel}
 use Rattle.strc_staged.specs.Steps.{StageState}
-use Rattle.strc_parcel.specs.declared.stop.Stop.{Stop}
+use Rattle.strc_core.specs.declared.stop.Stop.{Stop}
 use Rattle.strc_stages.specs.Stages.{see}
 use Rattle.strc_stages.proofs.Steps.{step_is}
 use Rattle.strc_stages.proofs.stepping.step_parts.Goals as goal

@@ -2,9 +2,9 @@ use Rattle.std.proofs.Common.{◌≡◌, ◌∙◌, refl, sym, ap, subst, Bool, 
 use Rattle.std.proofs.Common.{inl, inr}
 use Rattle.std.proofs.Common.{if◌then◌else◌, map}
 use Rattle.strc_admissible.specs.Machine.{MachineView, order_run}
-use Rattle.strc_parcel.specs.Parcels.{ParcelView, parcel, emptied}
-use Rattle.strc_circuit.specs.Circuits.{circuit_view}
-use Rattle.strc_order.specs.Greedy.{firings_of}
+use Rattle.strc_core.specs.Parcels.{ParcelView, parcel, emptied}
+use Rattle.strc_rings.specs.Circuits.{circuit_view}
+use Rattle.strc_schedule.specs.Greedy.{firings_of}
 use Rattle.strc_runner.specs.Running.{HasGone, machine_view, with_rings, with_words}
 use Rattle.strc_staged.specs.Steps.{StageState, machine_left, rings_left, words_left, load_left}
 use Rattle.strc_staged.specs.Steps.{load_worded, load_entered, machine_entered}

@@ -1,5 +1,5 @@
 use Rattle.std.proofs.Common.{◌∙◌, ap}
-use Rattle.strc_parcel.specs.Parcels.{ParcelView, parcel, with_words}
+use Rattle.strc_core.specs.Parcels.{ParcelView, parcel, with_words}
 use Rattle.strc_stages.proofs.Words.{words_twice}
 use Rattle.strc_stages.proofs.wording.hand_tape.Goals as goal
 

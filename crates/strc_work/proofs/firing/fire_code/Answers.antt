@@ -3,9 +3,9 @@ use Rattle.strc_work.specs.Kept.{Kept}
 use Rattle.strc_semantics.specs.Filters.{filter_of}
 use Rattle.strc_code.specs.Code.{code_of}
 use Rattle.strc_code.specs.Nodes.{nodes_print}
-use Rattle.strc_inst.specs.Running.{machine_of, port_within, fresh_io, Tells}
+use Rattle.strc_instructions.specs.Running.{machine_of, port_within, fresh_io, Tells}
 use Rattle.strc_code.specs.Flat.{node_done}
-use Rattle.strc_machine.proofs.Runs.{wants_as}
+use Rattle.strc_work.proofs.Runs.{wants_as}
 use Rattle.strc_code.specs.Lowering.{slot_count}
 use Rattle.strc_semantics.specs.Firing.{fired}
 use Rattle.strc_work.specs.Answers.{Fires}

@@ -2,7 +2,7 @@ use Rattle.std.proofs.Common.{◌≡◌, ◌≤◌, ◌++◌, [], Ok, Err, lengt
 use Rattle.std.proofs.Common.{sym, ap, ◌∙◌, subst, arith, rules}
 use Rattle.strc_semantics.specs.Filters.{filter_of}
 use Rattle.strc_code.specs.Code.{code_of}
-use Rattle.strc_inst.specs.Running.{machine_of, port_within, fresh_io, Tells}
+use Rattle.strc_instructions.specs.Running.{machine_of, port_within, fresh_io, Tells}
 use Rattle.strc_code.specs.Flat.{node_done}
 use Rattle.strc_code.specs.declared.limits.FiringLimits.{FiringLimits}
 use Rattle.strc_code.specs.Lowering.{slot_count}

@@ -8,19 +8,19 @@ use Rattle.strc_semantics.specs.Arithmetic.{is_true}
 use Rattle.strc_semantics.specs.Firing as firing
 use Rattle.strc_semantics.specs.Firing.{turn_limit}
 use Rattle.strc_elab.specs.Elaboration as spec
-use Rattle.strc_scope.specs.Statements.{computed}
+use Rattle.strc_statements.specs.Statements.{computed}
 use Rattle.strc_elab.specs.Elaboration.{condition_evaluated, inside, stmt_run, stmts_run}
-use Rattle.strc_scope.specs.Answers.{IsRefusal}
+use Rattle.strc_statements.specs.Answers.{IsRefusal}
 use Rattle.strc_elab.specs.Answering.{Runs, progress_of}
 use Rattle.strc_elab.specs.Loops.{while_looped, for_looped}
-use Rattle.strc_scope.specs.Saying.{store_of}
+use Rattle.strc_statements.specs.Saying.{store_of}
 use Rattle.strc_elab.specs.Tasks.{setting_of}
 use Rattle.strc_elab.proofs.Bodies.{inside_refused, inside_ran, left_is, block_is, block_names_left}
 use Rattle.strc_elab.proofs.Bodies.{statement_names_left, stmts_go_on, names_go_on, chosen_runs}
 use Rattle.strc_elab.proofs.Bodies.{seen_condition, for_runs}
 use Rattle.strc_elab.proofs.LoopRuns.{Test, Step, test_refused, loop_ends, turn_refused}
 use Rattle.strc_elab.proofs.LoopRuns.{body_refused, loop_goes_on, loop_over}
-use Rattle.strc_weights.proofs.Refusals.{refused_same, first_refused, second_refused, both_done}
+use Rattle.strc_statements.proofs.Refusals.{refused_same, first_refused, second_refused, both_done}
 use Rattle.strc_elab.proofs.body.Body.+body.Goals as goal
 
 pub inside-returns-clause-runs : goal.inside-returns-clause-runs
@@ -446,8 +446,9 @@ while_turns-returns-clause-runs g t c =
     let round = c.loop-round._round in
     let left = c.loop-round.invariant.left in
     let m = progress_of c.loop-round.progress in
-    loop_over test body round m whole (omega (arith, c.loop-round-test.false))
-    (omega (arith, c.loop-round.auto._round-end)) left
+    subst (λ e. IsRefusal whole e) (sym c.fault.ensures)
+    (loop_over test body round m whole (omega (arith, c.loop-round-test.false))
+    (omega (arith, c.loop-round.auto._round-end)) left)
 
 pub for_turns-loop-round-init : goal.for_turns-loop-round-init
 for_turns-loop-round-init g t c =
@@ -671,5 +672,6 @@ for_turns-returns-clause-runs g t c =
     let round = c.loop-round._round in
     let left = c.loop-round.invariant.left in
     let m = progress_of c.loop-round.progress in
-    loop_over test body round m whole (omega (arith, c.loop-round-test.false))
-    (omega (arith, c.loop-round.auto._round-end)) left
+    subst (λ e. IsRefusal whole e) (sym c.fault.ensures)
+    (loop_over test body round m whole (omega (arith, c.loop-round-test.false))
+    (omega (arith, c.loop-round.auto._round-end)) left)

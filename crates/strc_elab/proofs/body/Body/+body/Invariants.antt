@@ -18,6 +18,9 @@ decreases-statements g l = 4 * goal.size-statements g l + 3
 abbrev pub decreases-statement : goal.decreases-statement
 decreases-statement g l = 4 * the_size l.statement.now + 1
 
+abbrev pub decreases-statement_at : goal.decreases-statement_at
+decreases-statement_at g l = 4 * the_size l.statement.now + 2
+
 abbrev pub decreases-block : goal.decreases-block
 decreases-block g l = 4 * goal.size-block g l + 4
 

@@ -1,8 +1,8 @@
-use Rattle.std.proofs.Common.{◌≡◌, [], map, length, false, Ok, sym, ap, ◌∙◌, subst}
+use Rattle.std.proofs.Common.{◌≡◌, [], map, length, false, is_some, Ok, sym, ap, ◌∙◌, subst}
 use Rattle.std.proofs.lemmas.List.{length-map}
 use Rattle.strc_syntax.specs.View.{declaration_view, expr_view}
-use Rattle.strc_scope.specs.Saying.{store_of}
-use Rattle.strc_scope.specs.Texts.{parameters_of, is_doubled, text_of}
+use Rattle.strc_statements.specs.Saying.{store_of}
+use Rattle.strc_statements.specs.Texts.{parameters_of, is_doubled, text_of}
 use Rattle.strc_elab.specs.Answering.{progress_of, Runs}
 use Rattle.strc_elab.specs.Elaboration as spec
 use Rattle.strc_elab.specs.Tasks.{setting_of}
@@ -31,7 +31,7 @@ returns-clause-runs g c =
     parameters c.in_ok-constants.ensures.binds in
     let plain : is_doubled (parameters_of declaration) ≡ false =
     subst (λ l. is_doubled l ≡ false) parameters
-    (sym c.in_ok-is_doubled.ensures ∙ c.if-branch.false) in
+    (sym c.in_ok-twice.ensures ∙ ap is_some c.in_default.is) in
     let found : spec.Found = record {
       place = record { declaration = c.args.number; constants = bound };
       text = text_of declaration.name declaration.stream;
@@ -45,5 +45,5 @@ returns-clause-runs g c =
     c.elaborated.result after =
     subst (λ t. Runs (spec.found_run setting role (Ok (record found { text = t }))
     (record p { store = store })) c.elaborated.result after)
-    c.text_of.ensures c.elaborated.ensures.runs in
+    c.text_of-text.ensures c.elaborated.ensures.runs in
     subst (λ r. Runs r c.elaborated.result after) (sym whole) ran

@@ -5,7 +5,7 @@ use Rattle.strc_semantics.specs.Filters.{filter_parts}
 use Rattle.strc_elab.specs.Elaboration as spec
 use Rattle.strc_elab.specs.Answering.{progress_of, Runs}
 use Rattle.strc_elab.specs.Tasks.{setting_of}
-use Rattle.strc_scope.specs.Texts.{FilterText, CompositeText}
+use Rattle.strc_statements.specs.Texts.{FilterText, CompositeText}
 use Rattle.strc_elab.proofs.Children.{filter_child, composite_child}
 use Rattle.strc_elab.proofs.body.Body.child.Goals as goal
 

@@ -2,7 +2,7 @@ use Rattle.std.proofs.Common.{[], ap, ◌∙◌, subst}
 use Rattle.std.proofs.lemmas.Result.{err_from_is_err_and}
 use Rattle.strc_syntax.specs.View.{block_view}
 use Rattle.strc_elab.specs.Elaboration.{stmts_run}
-use Rattle.strc_scope.specs.Answers.{IsRefusal}
+use Rattle.strc_statements.specs.Answers.{IsRefusal}
 use Rattle.strc_elab.specs.Answering.{progress_of}
 use Rattle.strc_elab.specs.Tasks.{setting_of}
 use Rattle.strc_elab.proofs.body.Body.run.Goals as goal

@@ -1,5 +1,5 @@
 use Rattle.std.proofs.Common.{sym, subst}
-use Rattle.strc_scope.specs.Answers.{IsVerdict}
+use Rattle.strc_statements.specs.Answers.{IsVerdict}
 use Rattle.strc_elab.specs.Elaboration.{text_elaborated}
 use Rattle.strc_elab.specs.Tasks.{setting_of, totals_of, text_view, elaborated_view}
 use Rattle.strc_elab.proofs.body.Body.text_elaborated.Goals as goal

@@ -1,8 +1,8 @@
 use Rattle.std.proofs.Common.{rules, ◌≡◌, ◌∙◌, ◌++◌, ◌∷◌, [], Ok}
 use Rattle.strc_check.specs.declared.types.ValueType.TheVariants as kind
 use Rattle.strc_syntax.specs.View.{expr_view}
-use Rattle.strc_scope.specs.Saying.{store_of}
-use Rattle.strc_scope.specs.Statements.{eval_checked}
+use Rattle.strc_statements.specs.Saying.{store_of}
+use Rattle.strc_statements.specs.Statements.{eval_checked}
 use Rattle.strc_elab.specs.Tasks.{setting_of, place_of}
 use Rattle.strc_elab.proofs.Values.{one_value_more}
 use Rattle.strc_elab.proofs.body.Body.values.Goals as goal

@@ -3,14 +3,14 @@ use Rattle.std.proofs.Common.{List}
 use Rattle.std.proofs.lemmas.Result.{err_from_is_err_and}
 use Rattle.strc_graph.specs.NodeView.{splitter_view}
 use Rattle.strc_stream.specs.Types.{side}
-use Rattle.strc_scope.specs.Answers.{IsRefusal}
+use Rattle.strc_statements.specs.Answers.{IsRefusal}
 use Rattle.strc_elab.specs.Answering.{progress_of}
-use Rattle.strc_weights.specs.Splits.{split_view}
-use Rattle.strc_weights.specs.Weights.{weighted, loop_weights, loop_splitter, input_written}
-use Rattle.strc_weights.specs.Weights.{output_written}
+use Rattle.strc_statements.specs.Splits.{split_view}
+use Rattle.strc_statements.specs.Weights.{weighted, loop_weights, loop_splitter, input_written}
+use Rattle.strc_statements.specs.Weights.{output_written}
 use Rattle.strc_elab.proofs.Composites.{loop_starts, joiner_refused, splitter_refused}
 use Rattle.strc_elab.proofs.Composites.{types_refused}
-use Rattle.strc_weights.proofs.Refusals.{refused_same}
+use Rattle.strc_statements.proofs.Refusals.{refused_same}
 use Rattle.strc_elab.proofs.task.Task.loop_assembly.Goals as goal
 
 pub returns-in_err-joiner-in-Some-Some : goal.returns-in_err-joiner-in-Some-Some
@@ -91,9 +91,10 @@ returns-else-is_as_written c =
     (loop_splitter (output_written written) (split_view c.in-Some-Some.split)) ≡ Ok splitter =
     subst (λ t. weighted declaration (loop_splitter t (split_view c.in-Some-Some.split))
     ≡ Ok splitter) c.output_written-given.ensures c.in_ok-splitter-in-Some-Some.ensures in
-    start.starts ∙ types_refused declaration written join.items start.inner start.back
+    rw c.mismatch.ensures (start.starts ∙ types_refused declaration written join.items start.inner
+    start.back
     (split_view c.in-Some-Some.split) (progress_of progress) joiner splitter
     c.loop_types-types.result joins splits
     (c.loop_types-types.ensures.input
     ∙ ap (λ (l : List ℕ). side (nat_lt 0 (slice_index l 0))) c.deref-in-Some-Some.ensures.value)
-    c.loop_types-types.ensures.output (sym c.is_as_written.ensures ∙ c.if-is_as_written.false)
+    c.loop_types-types.ensures.output (sym c.is_as_written.ensures ∙ c.if-is_as_written.false))

@@ -1,11 +1,13 @@
 use Rattle.std.proofs.Common.{◌≡◌, length, option_map, Ok, sym, ap, ◌∙◌, subst, rules}
+use Rattle.std.proofs.lemmas.Result.{err_from_is_err_and}
 use Rattle.strc_graph.specs.NodeView.{splitter_view}
+use Rattle.strc_statements.specs.Answers.{IsRefusal}
 use Rattle.strc_elab.specs.Answering.{progress_of, join_view}
-use Rattle.strc_weights.specs.Splits.{split_view}
+use Rattle.strc_statements.specs.Splits.{split_view}
 use Rattle.strc_elab.specs.Elaboration as spec
-use Rattle.strc_weights.specs.Sides.{inputs_in, outputs_in, any_side}
-use Rattle.strc_weights.specs.Weights.{split_dealt, join_dealt}
-use Rattle.strc_elab.proofs.Composites.{splitjoin_done}
+use Rattle.strc_statements.specs.Sides.{inputs_in, outputs_in, any_side}
+use Rattle.strc_statements.specs.Weights.{split_dealt, join_dealt}
+use Rattle.strc_elab.proofs.Composites.{splitjoin_done, joins_refused}
 use Rattle.strc_elab.proofs.task.Task.splitjoin_assembly.Goals as goal
 
 pub returns-then-is_as_written : goal.returns-then-is_as_written
@@ -39,3 +41,32 @@ returns-then-is_as_written c =
     ∙ ap any_side (c.deref-in-Some-Some-6.ensures.value ∙ outputs))
     (sym c.is_as_written.ensures ∙ c.if-is_as_written.true)
     ∙ ap (λ (m : spec.Elaborated). Ok m) (sym c.splitjoin_of.ensures)
+
+pub returns-in_err-joiner-in-Some-Some : goal.returns-in_err-joiner-in-Some-Some
+returns-in_err-joiner-in-Some-Some c =
+    let p = err_from_is_err_and c.from_residual-in_err-joiner-in-Some-Some.result
+    c.from_residual-in_err-joiner-in-Some-Some.ensures.1 in
+    let e = c.in_err-joiner-in-Some-Some.field-0.0 in
+    let declaration = c.args.self.now.declaration in
+    let progress = c.args.progress.now in
+    let types = progress.types.items in
+    let split = split_view c.in-Some-Some.split in
+    let join = c.in-Some-Some.join.items in
+    let splitter = option_map splitter_view c.in_ok-splitter-in-Some-Some.splitter in
+    let some : length types ≡ 0 → ⊥ = search rules in
+    let inputs : c.in_ok-inputs-in-Some-Some.inputs.items ≡ inputs_in types =
+    c.in_ok-inputs-in-Some-Some.ensures ∙ ap inputs_in c.deref.ensures.value in
+    let outputs : c.in_ok-outputs-in-Some-Some.outputs.items ≡ outputs_in types =
+    c.in_ok-outputs-in-Some-Some.ensures ∙ ap outputs_in c.deref-in-Some-Some.ensures.value in
+    let splits : split_dealt declaration split (inputs_in types) ≡ Ok splitter =
+    subst (λ l. split_dealt declaration split l ≡ Ok splitter)
+    (c.deref-in-Some-Some-2.ensures.value ∙ inputs) c.in_ok-splitter-in-Some-Some.ensures in
+    let no : IsRefusal (join_dealt declaration join (outputs_in types)) e =
+    subst (λ l. IsRefusal (join_dealt declaration l (outputs_in types)) e)
+    c.deref-in-Some-Some-3.ensures.value
+    (subst (λ l. IsRefusal (join_dealt declaration c.deref-in-Some-Some-3.result.now l) e)
+    (c.deref-in-Some-Some-4.ensures.value ∙ outputs) c.in_err-joiner-in-Some-Some.ensures) in
+    rw (p.1, p.2) (joins_refused declaration c.args.written types
+    (option_map split_view progress.split) (join_view progress.join) (progress_of progress) split
+    join splitter e some (ap (option_map split_view) c.in-Some-Some.is-0)
+    (ap join_view c.in-Some-Some.is-1) splits no)

@@ -3,13 +3,13 @@ use mathlib.Core.Path.{fun_ext}
 use Rattle.strc_balance.specs.Balance.{count_at}
 use Rattle.strc_graph.specs.NodeView.{GraphParts, node_view}
 use Rattle.strc_graph.specs.Tapes.{tape_nodes}
-use Rattle.strc_order.specs.Greedy.{firings_of}
-use Rattle.strc_order.specs.Order.{firing_count}
-use Rattle.strc_order.specs.Schedules.{ScheduleParts}
-use Rattle.strc_order.specs.declared.unit as units
+use Rattle.strc_schedule.specs.Greedy.{firings_of}
+use Rattle.strc_schedule.specs.Order.{firing_count}
+use Rattle.strc_schedule.specs.Schedules.{ScheduleParts}
+use Rattle.strc_schedule.specs.declared.unit as units
 use Rattle.strc_admissible.proofs.Orders.{firing_count_is}
 use Rattle.std.proofs.lemmas.List.{length-map}
-use Rattle.strc_cut.specs.Bounds.{stage_bounds}
+use Rattle.strc_stage.specs.Bounds.{stage_bounds}
 use Rattle.strc_fuse.specs.Units.{round_units}
 use Rattle.strc_stage.specs.Plans.{transformed_of}
 use Rattle.strc_launch.specs.Cuts.{IsCutAt}

@@ -7,7 +7,7 @@ use Rattle.strc_grammar.specs.Streams.{member, members, statement}
 use Rattle.strc_grammar.proofs.Repeated.{brace_closes, brace_stays}
 use Rattle.strc_grammar.proofs.MemberSoundness.{member_shorter}
 use Rattle.strc_grammar.proofs.TreeSoundness.{statement_soundness}
-use Rattle.strc_rules.proofs.Loops.{goes_on, goes_to, goes_wrong}
+use Rattle.strc_grammar.proofs.Loops.{goes_on, goes_to, goes_wrong}
 use Rattle.strc_parse.proofs.Grown.{grown_read, grown_turn, grown_fails}
 use Rattle.strc_parse.proofs.control.StatementRules.members.Goals as goal
 

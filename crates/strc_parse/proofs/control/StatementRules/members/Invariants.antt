@@ -3,7 +3,7 @@ use Rattle.strc_syntax.specs.View.{member_view}
 use Rattle.strc_grammar.specs.Grammar.{kinds}
 use Rattle.strc_grammar.specs.Reading.{brace, one_taller}
 use Rattle.strc_grammar.specs.Streams.{members, member, statement}
-use Rattle.strc_rules.proofs.Loops.{Going}
+use Rattle.strc_grammar.proofs.Loops.{Going}
 use Rattle.strc_parse.proofs.control.StatementRules.members.Given as goal
 
 abbrev pub invariant-loop-next : goal.invariant-loop-next

@@ -1,4 +1,4 @@
-use Rattle.strc_circuit.specs.Circuits.{circuit_view}
+use Rattle.strc_rings.specs.Circuits.{circuit_view}
 use Rattle.strc_runner.specs.Batches.{all_firings}
 use Rattle.strc_runner.proofs.BatchLists.{units_next}
 use Rattle.strc_runner.proofs.batches.Order.new.Goals as goal

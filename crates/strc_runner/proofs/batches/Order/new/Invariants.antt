@@ -1,6 +1,6 @@
 use Rattle.std.proofs.Common.{◌≡◌, All, take}
-use Rattle.strc_order.specs.Greedy.{firings_of}
-use Rattle.strc_circuit.specs.Circuits.{circuit_view}
+use Rattle.strc_schedule.specs.Greedy.{firings_of}
+use Rattle.strc_rings.specs.Circuits.{circuit_view}
 use Rattle.strc_runner.specs.Batches.{AreBatches, all_firings, in_circuit}
 use Rattle.strc_runner.proofs.batches.Order.new.Given as goal
 

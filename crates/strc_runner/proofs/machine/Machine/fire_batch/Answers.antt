@@ -5,10 +5,10 @@ use Rattle.std.proofs.lemmas.List.{with_items_is, length-set, length-map}
 use Rattle.std.proofs.lemmas.Option.{slice_get-get_or}
 use Rattle.strc_graph.specs.Graphs as graphs
 use Rattle.strc_graph.specs.NodeView.{node_view}
-use Rattle.strc_order.specs.Order.{repeated}
+use Rattle.strc_schedule.specs.Order.{repeated}
 use Rattle.strc_admissible.specs.Machine.{Went, order_run}
 use Rattle.strc_runner.specs.Blocks.{HasPassed, PassesOn}
-use Rattle.strc_circuit.specs.Circuits.{circuit_view}
+use Rattle.strc_rings.specs.Circuits.{circuit_view}
 use Rattle.strc_runner.specs.Memory.{WantsWordOfOrder}
 use Rattle.strc_runner.specs.Running.{machine_view, HasGone, HoldRings}
 use Rattle.strc_runner.proofs.Done.{machine_after, more_refl, nothing_kept}

@@ -1,7 +1,7 @@
 use Rattle.std.proofs.Common.{refl, drop, get_or, ◌+◌, ◌∷◌, []}
-use Rattle.strc_order.specs.Order.{repeated}
+use Rattle.strc_schedule.specs.Order.{repeated}
 use Rattle.strc_admissible.specs.Machine.{order_run}
-use Rattle.strc_circuit.specs.Circuits.{circuit_view}
+use Rattle.strc_rings.specs.Circuits.{circuit_view}
 use Rattle.strc_runner.specs.Batches.{batch_firings}
 use Rattle.strc_runner.specs.Handing.{held_view}
 use Rattle.strc_runner.specs.Running.{machine_view}

@@ -1,6 +1,6 @@
 use Rattle.std.proofs.Common.{◌-◌}
-use Rattle.strc_order.specs.Order.{repeated}
-use Rattle.strc_circuit.specs.Circuits.{circuit_view}
+use Rattle.strc_schedule.specs.Order.{repeated}
+use Rattle.strc_rings.specs.Circuits.{circuit_view}
 use Rattle.strc_runner.specs.Batches.{batch_firings}
 use Rattle.strc_runner.specs.Running.{IsMachine, machine_view}
 use Rattle.strc_runner.proofs.Going.{Goes}

@@ -1,7 +1,7 @@
 use Rattle.std.proofs.Common.{◌∙◌, ap, subst, set, ◌<◌, length, arith, Ok, Err}
 use Rattle.std.proofs.lemmas.Grind.{get_or_default_zero}
 use Rattle.strc_admissible.specs.Machine.{next_step, one_more, step_at}
-use Rattle.strc_circuit.specs.Circuits.{circuit_view}
+use Rattle.strc_rings.specs.Circuits.{circuit_view}
 use Rattle.strc_rings.specs.Words.{WantsWordOfStep}
 use Rattle.strc_runner.specs.Memory.{prints_at}
 use Rattle.strc_runner.specs.Running.{HasDone, machine_view}

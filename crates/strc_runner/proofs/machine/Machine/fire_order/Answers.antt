@@ -1,5 +1,5 @@
 use Rattle.std.proofs.Common.{ap, arith, drop, length, ◌+◌, ◌<◌, ◌≤◌, Err, Ok}
-use Rattle.strc_circuit.specs.Circuits.{circuit_view}
+use Rattle.strc_rings.specs.Circuits.{circuit_view}
 use Rattle.strc_runner.specs.Running.{machine_view}
 use Rattle.strc_runner.specs.Batches.{all_firings, list_firings}
 use Rattle.strc_runner.proofs.BatchLists.{all_left, order_gone, order_wants}

@@ -1,5 +1,5 @@
 use Rattle.std.proofs.Common.{drop}
-use Rattle.strc_circuit.specs.Circuits.{circuit_view}
+use Rattle.strc_rings.specs.Circuits.{circuit_view}
 use Rattle.strc_runner.specs.Batches.{all_firings}
 use Rattle.strc_runner.specs.Running.{IsMachine, machine_view}
 use Rattle.strc_runner.proofs.Going.{Goes}

@@ -8,7 +8,7 @@ use Rattle.std.proofs.lemmas.Option.{slice_get-get_or}
 use Rattle.strc_graph.specs.Graphs as graphs
 use Rattle.strc_admissible.specs.Machine.{Went}
 use Rattle.strc_admissible.specs.Rings.{given}
-use Rattle.strc_circuit.specs.Circuits.{circuit_view}
+use Rattle.strc_rings.specs.Circuits.{circuit_view}
 use Rattle.strc_runner.specs.Blocks.{PassesOn}
 use Rattle.strc_runner.specs.Handing.{held_view}
 use Rattle.strc_runner.specs.declared.batches.Kind.TheVariants as kind

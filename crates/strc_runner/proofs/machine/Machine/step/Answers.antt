@@ -12,7 +12,7 @@ use Rattle.strc_admissible.specs.Wiring.{ports_at}
 use Rattle.strc_runner.specs.Actors.{IsActorOf, fields_of}
 use Rattle.strc_rings.specs.Answers.{HasStepped}
 use Rattle.strc_runner.specs.Memory.{maybe_prints, prints_at}
-use Rattle.strc_circuit.specs.Circuits.{circuit_view}
+use Rattle.strc_rings.specs.Circuits.{circuit_view}
 use Rattle.strc_runner.specs.Running.{machine_view}
 use Rattle.strc_runner.specs.declared.actor.Actor.TheVariants as actor
 use Rattle.strc_runner.proofs.Done.{actor_at, actor_set, code_at, done_by, fields_set, fields_at}

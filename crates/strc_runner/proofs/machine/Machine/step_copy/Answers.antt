@@ -10,7 +10,7 @@ use Rattle.strc_admissible.specs.Machine.{words_at}
 use Rattle.strc_admissible.specs.Rings.{at_port}
 use Rattle.strc_admissible.specs.Steps.{copy_step}
 use Rattle.strc_admissible.specs.Wiring.{ports_at}
-use Rattle.strc_circuit.specs.Circuits.{circuit_view}
+use Rattle.strc_rings.specs.Circuits.{circuit_view}
 use Rattle.strc_rings.specs.Answers.{HasStepped}
 use Rattle.strc_runner.specs.Actors.{IsActorOf, fields_of}
 use Rattle.strc_runner.specs.Copies.{copied_step}

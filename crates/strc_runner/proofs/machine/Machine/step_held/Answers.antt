@@ -9,7 +9,7 @@ use Rattle.strc_admissible.specs.Machine.{step_at, words_at}
 use Rattle.strc_admissible.specs.Rings.{at_port}
 use Rattle.strc_admissible.specs.Steps.{filter_step}
 use Rattle.strc_admissible.specs.Wiring.{ports_at}
-use Rattle.strc_circuit.specs.Circuits.{circuit_view}
+use Rattle.strc_rings.specs.Circuits.{circuit_view}
 use Rattle.strc_rings.specs.Words.{WantsWordOfStep}
 use Rattle.strc_runner.specs.Actors.{IsActorOf, fields_of}
 use Rattle.strc_runner.specs.Handing.{held_view, with_held}

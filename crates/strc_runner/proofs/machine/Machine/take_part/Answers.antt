@@ -1,7 +1,7 @@
 use Rattle.std.proofs.Common.{◌∙◌, sym, ap, [], length, get_or, false, map, replicate}
 use Rattle.std.proofs.lemmas.List.{length-map, length-replicate}
 use Rattle.strc_graph.specs.NodeView.{channel_view, node_view}
-use Rattle.strc_circuit.specs.Circuits.{circuit_view}
+use Rattle.strc_rings.specs.Circuits.{circuit_view}
 use Rattle.strc_runner.specs.Parts.{empty_rings, ends_within}
 use Rattle.strc_runner.specs.declared.actor.Actor.TheVariants as actor
 use Rattle.strc_runner.proofs.PartLists.{rings_long}

@@ -5,7 +5,7 @@ use Rattle.std.proofs.lemmas.List.{length-set, map-append}
 use Rattle.strc_semantics.specs.declared.word.Word.{Word}
 use Rattle.strc_graph.specs.Graphs.{gives_words}
 use Rattle.strc_graph.specs.NodeView.{node_view}
-use Rattle.strc_outcome.specs.Tapes.{tape, tape_view}
+use Rattle.strc_refusal.specs.Tapes.{tape, tape_view}
 use Rattle.strc_admissible.specs.Machine.{words_at}
 use Rattle.strc_runner.specs.Running.{words_of}
 use Rattle.strc_sched.proofs.TapeLists.{tape_here, no_tape_here, tapes_later, other_words}

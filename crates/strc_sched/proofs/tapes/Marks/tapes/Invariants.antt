@@ -1,7 +1,7 @@
 use Rattle.std.proofs.Common.{◌≡◌, ℕ, ◌≤◌, ◌++◌, length, map, take, drop}
 use Rattle.std.specs.Prelude.{slice_index}
 use Rattle.strc_graph.specs.NodeView.{node_view}
-use Rattle.strc_outcome.specs.Tapes.{tape_view}
+use Rattle.strc_refusal.specs.Tapes.{tape_view}
 use Rattle.strc_admissible.specs.Machine.{words_at}
 use Rattle.strc_sched.specs.Marks.{kept_tapes}
 use Rattle.strc_runner.specs.Running.{words_of}

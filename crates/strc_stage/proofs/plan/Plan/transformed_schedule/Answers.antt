@@ -1,6 +1,6 @@
 use Rattle.std.proofs.Common.{◌∙◌, sym, ap, subst, All, length}
-use Rattle.strc_order.specs.Peaks.{HasNodes}
-use Rattle.strc_order.specs.Schedules.{ScheduleParts}
+use Rattle.strc_schedule.specs.Peaks.{HasNodes}
+use Rattle.strc_schedule.specs.Schedules.{ScheduleParts}
 use Rattle.strc_stage.specs.Plans.{PlanParts}
 use Rattle.strc_stage.proofs.Transformed.{nodes_after}
 use Rattle.strc_stage.proofs.plan.Plan.transformed_schedule.Goals as goal

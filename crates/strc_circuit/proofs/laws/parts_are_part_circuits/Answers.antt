@@ -1,5 +1,0 @@
-use Rattle.strc_circuit.proofs.PartCircuits.{parts_are_part_circuits}
-use Rattle.strc_circuit.proofs.laws.parts_are_part_circuits.Goals as goal
-
-pub returns : goal.returns
-returns c = parts_are_part_circuits

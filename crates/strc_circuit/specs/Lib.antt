@@ -1,4 +1,0 @@
-pub mod Apart
-pub mod Circuits
-pub mod Parts
-pub mod Units

@@ -1,5 +1,0 @@
-pub mod Bounds
-pub mod Cuts
-pub mod Laws
-pub mod Rows
-pub mod Spans

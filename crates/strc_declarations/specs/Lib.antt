@@ -1,3 +1,0 @@
-pub mod MainStreams
-pub mod Names
-pub mod Written

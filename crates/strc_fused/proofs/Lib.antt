@@ -1,4 +1,0 @@
-pub mod Copies
-pub mod GreedyOnce
-pub mod Exclusion
-pub mod Planned

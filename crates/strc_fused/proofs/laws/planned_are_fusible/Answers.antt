@@ -1,5 +1,0 @@
-use Rattle.strc_fused.proofs.Planned.{planned_are_fusible}
-use Rattle.strc_fused.proofs.laws.planned_are_fusible.Goals as goal
-
-pub returns : goal.returns
-returns c = planned_are_fusible

@@ -1,2 +1,0 @@
-pub mod Fusions
-pub mod Laws

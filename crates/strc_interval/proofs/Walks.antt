@@ -1,0 +1,316 @@
+-- One walk over a text, beside the tables of the names, tells whether it writes one of the fields.
+use Rattle.std.proofs.Common.{◌≡◌, refl, sym, ◌∙◌, ap, ℕ, Bool, true, false, not, ◌&&◌, ◌||◌, List}
+use Rattle.std.proofs.Common.{[], ◌∷◌, ◌++◌, Option, Some, None}
+use Rattle.std.specs.Prelude.{bytes_eq}
+use Rattle.std.proofs.lemmas.Slice.Eq.{bytes_eq-Decides}
+use Rattle.strc_base.specs.Names.{has_name}
+use Rattle.strc_syntax.specs.Tree as tree
+use Rattle.strc_semantics.specs.Filters.{field_names, declared_names}
+use Rattle.strc_interval.specs.Loops.{Locals, with_locals, locals_after, declares, shadows}
+use Rattle.strc_interval.specs.Loops.{expr_writes, option_writes, variables_write, stmt_writes}
+use Rattle.strc_interval.specs.Loops.{stmts_write}
+use Rattle.strc_interval.specs.Stateless.{write_one_of}
+use Rattle.strc_interval.specs.Walk.{with_fields, is_field, expr_writes_field, option_writes_field}
+use Rattle.strc_interval.specs.Walk.{variables_write_field, stmt_writes_field, stmts_write_field}
+
+-- ---- truth values
+
+or_false : (a : Bool) → (a || false) ≡ a
+or_false true = refl
+or_false false = refl
+
+and_false : (a : Bool) → (a && false) ≡ false
+and_false true = refl
+and_false false = refl
+
+or_moved : (a b c : Bool) → (a || (b || c)) ≡ ((b || a) || c)
+or_moved true true c = refl
+or_moved true false c = refl
+or_moved false true c = refl
+or_moved false false c = refl
+
+or_mixed : (h a b left right : Bool)
+    → ((h && (a || b)) || (left || right)) ≡ (((h && a) || left) || ((h && b) || right))
+or_mixed false a b left right = refl
+or_mixed true true b left right = refl
+or_mixed true false true true right = refl
+or_mixed true false true false right = refl
+or_mixed true false false left right = refl
+
+not_either : (a b t : Bool) → (not (a || b) && t) ≡ (not b && (not a && t))
+not_either true b t = sym (and_false (not b))
+not_either false b t = refl
+
+not_first : (a b t : Bool) → (not a && (not b && t)) ≡ (not (a || b) && t)
+not_first true b t = refl
+not_first false b t = refl
+
+-- ---- tests of fields that no local variable hides
+
+abbrev some_field : (fields : List (List ℕ)) → Locals → (List ℕ → Bool) → Bool
+some_field [] locals test = false
+some_field (name ∷ rest) locals test =
+    (not (has_name locals name) && test name) || some_field rest locals test
+
+some_none : (fields : List (List ℕ)) (locals : Locals)
+    → false ≡ some_field fields locals (λ name. false)
+some_none [] locals = refl
+some_none (name ∷ rest) locals =
+    some_none rest locals
+    ∙ sym (ap (λ t. t || some_field rest locals (λ name. false))
+    (and_false (not (has_name locals name))))
+
+some_same : (fields : List (List ℕ)) (locals : Locals) (a b : List ℕ → Bool)
+    → ((name : List ℕ) → a name ≡ b name)
+    → some_field fields locals a ≡ some_field fields locals b
+some_same [] locals a b same = refl
+some_same (name ∷ rest) locals a b same =
+    ap (λ t. (not (has_name locals name) && t) || some_field rest locals a) (same name)
+    ∙ ap (λ t. (not (has_name locals name) && b name) || t) (some_same rest locals a b same)
+
+some_or : (fields : List (List ℕ)) (locals : Locals) (a b : List ℕ → Bool)
+    → some_field fields locals (λ name. a name || b name)
+    ≡ (some_field fields locals a || some_field fields locals b)
+some_or [] locals a b = refl
+some_or (name ∷ rest) locals a b =
+    ap (λ t. (not (has_name locals name) && (a name || b name)) || t) (some_or rest locals a b)
+    ∙ or_mixed (not (has_name locals name)) (a name) (b name) (some_field rest locals a)
+    (some_field rest locals b)
+
+-- two parts of a text
+both : (fields : List (List ℕ)) (locals : Locals) (a b : List ℕ → Bool) (first second : Bool)
+    → first ≡ some_field fields locals a → second ≡ some_field fields locals b
+    → (first || second) ≡ some_field fields locals (λ name. a name || b name)
+both fields locals a b first second e f =
+    ap (λ t. t || second) e ∙ ap (λ t. some_field fields locals a || t) f
+    ∙ sym (some_or fields locals a b)
+
+-- one more local variable
+some_hidden : (fields : List (List ℕ)) (locals : Locals) (hiding : List ℕ) (test : List ℕ → Bool)
+    → some_field fields (hiding ∷ locals) test
+    ≡ some_field fields locals (λ name. not (bytes_eq hiding name) && test name)
+some_hidden [] locals hiding test = refl
+some_hidden (name ∷ rest) locals hiding test =
+    ap (λ t. t || some_field rest (hiding ∷ locals) test)
+    (not_either (bytes_eq hiding name) (has_name locals name) (test name))
+    ∙ ap (λ t. (not (has_name locals name) && (not (bytes_eq hiding name) && test name)) || t)
+    (some_hidden rest locals hiding test)
+
+some_declared : (fields : List (List ℕ)) (locals : Locals) (variables : List tree.Variable)
+    (test : List ℕ → Bool) → some_field fields (with_locals locals variables) test
+    ≡ some_field fields locals (λ name. not (declares name variables) && test name)
+some_declared fields locals [] test = refl
+some_declared fields locals (first ∷ rest) test =
+    some_declared fields (first.name ∷ locals) rest test
+    ∙ some_hidden fields locals first.name (λ name. not (declares name rest) && test name)
+    ∙ some_same fields locals
+    (λ name. not (bytes_eq first.name name) && (not (declares name rest) && test name))
+    (λ name. not (declares name (first ∷ rest)) && test name)
+    (λ name. not_first (bytes_eq first.name name) (declares name rest) (test name))
+
+-- the local variables after a statement
+some_after : (fields : List (List ℕ)) (locals : Locals) (s : tree.Stmt) (test : List ℕ → Bool)
+    → some_field fields (locals_after locals s) test
+    ≡ some_field fields locals (λ name. not (shadows name s) && test name)
+some_after fields locals (tree.Declare kind variables) test =
+    some_declared fields locals variables test
+some_after fields locals tree.Empty test = refl
+some_after fields locals (tree.Compose statement) test = refl
+some_after fields locals (tree.Block body) test = refl
+some_after fields locals (tree.Evaluate value) test = refl
+some_after fields locals (tree.Assign assigned operator value) test = refl
+some_after fields locals (tree.AssignElement array index operator value) test = refl
+some_after fields locals (tree.If condition chosen) test = refl
+some_after fields locals (tree.IfElse condition chosen other) test = refl
+some_after fields locals (tree.While condition body) test = refl
+some_after fields locals (tree.For first condition step body) test = refl
+some_after fields locals (tree.Push value) test = refl
+some_after fields locals (tree.Print value) test = refl
+some_after fields locals (tree.Println value) test = refl
+
+-- the field of a name
+bytes_turned : (a b : List ℕ) → bytes_eq a b ≡ bytes_eq b a
+bytes_turned a b = by_test (bytes_eq a b) (bytes_eq b a) refl refl
+  where
+    by_test : (t u : Bool) → bytes_eq a b ≡ t → bytes_eq b a ≡ u → t ≡ u
+    by_test true true e f = refl
+    by_test false false e f = refl
+    by_test true false e f =
+        let yes : bytes_eq b a ≡ true =
+        (bytes_eq-Decides b a).1 (sym ((bytes_eq-Decides a b).0 e)) in absurd (cc)
+    by_test false true e f =
+        let yes : bytes_eq a b ≡ true =
+        (bytes_eq-Decides a b).1 (sym ((bytes_eq-Decides b a).0 f)) in absurd (cc)
+
+field_by : (t hidden hides found more : Bool) → (t ≡ true → hidden ≡ hides)
+    → (not hidden && found) ≡ more → (not hidden && (t || found)) ≡ ((not hides && t) || more)
+field_by true true hides found more same e =
+    let is : true ≡ hides = same refl in
+    e ∙ ap (λ h. (not h && true) || more) is
+field_by true false hides found more same e =
+    let is : false ≡ hides = same refl in
+    ap (λ h. (not h && true) || more) is
+field_by false hidden hides found more same e =
+    e ∙ sym (ap (λ t. t || more) (and_false (not hides)))
+
+some_named : (fields : List (List ℕ)) (locals : Locals) (sought : List ℕ)
+    → is_field fields locals sought ≡ some_field fields locals (λ name. bytes_eq sought name)
+some_named [] locals sought = and_false (not (has_name locals sought))
+some_named (name ∷ rest) locals sought =
+    ap (λ t. not (has_name locals sought) && (t || has_name rest sought))
+    (bytes_turned name sought)
+    ∙ field_by (bytes_eq sought name) (has_name locals sought) (has_name locals name)
+    (has_name rest sought) (some_field rest locals (λ name. bytes_eq sought name))
+    (λ e. ap (has_name locals) ((bytes_eq-Decides sought name).0 e)) (some_named rest locals sought)
+
+-- ---- the walk
+
+expr_walk : (fields : List (List ℕ)) (locals : Locals) (e : tree.Expr)
+    → expr_writes_field fields locals e ≡ some_field fields locals (λ name. expr_writes name e)
+expr_walk fields locals (tree.Number value) = some_none fields locals
+expr_walk fields locals (tree.Truth value) = some_none fields locals
+expr_walk fields locals (tree.Read read) = some_none fields locals
+expr_walk fields locals (tree.Element array index) = expr_walk fields locals index
+expr_walk fields locals tree.Pop = some_none fields locals
+expr_walk fields locals (tree.Peek index) = expr_walk fields locals index
+expr_walk fields locals (tree.Group inner) = expr_walk fields locals inner
+expr_walk fields locals (tree.Unary operator operand) = expr_walk fields locals operand
+expr_walk fields locals (tree.Step operator stepped) = some_named fields locals stepped
+expr_walk fields locals (tree.StepElement operator array index) =
+    both fields locals (bytes_eq array) (λ name. expr_writes name index) _ _
+    (some_named fields locals array) (expr_walk fields locals index)
+expr_walk fields locals (tree.Binary operator left right) =
+    both fields locals (λ name. expr_writes name left) (λ name. expr_writes name right) _ _
+    (expr_walk fields locals left) (expr_walk fields locals right)
+expr_walk fields locals (tree.Conditional condition chosen other) =
+    both fields locals (λ name. expr_writes name condition)
+    (λ name. expr_writes name chosen || expr_writes name other) _ _
+    (expr_walk fields locals condition)
+    (both fields locals (λ name. expr_writes name chosen) (λ name. expr_writes name other) _ _
+    (expr_walk fields locals chosen) (expr_walk fields locals other))
+
+option_walk : (fields : List (List ℕ)) (locals : Locals) (value : Option tree.Expr)
+    → option_writes_field fields locals value
+    ≡ some_field fields locals (λ name. option_writes name value)
+option_walk fields locals None = some_none fields locals
+option_walk fields locals (Some value) = expr_walk fields locals value
+
+variables_walk : (fields : List (List ℕ)) (locals : Locals) (variables : List tree.Variable)
+    → variables_write_field fields locals variables
+    ≡ some_field fields locals (λ name. variables_write name variables)
+variables_walk fields locals [] = some_none fields locals
+variables_walk fields locals (first ∷ rest) =
+    both fields locals (λ name. option_writes name first.initial)
+    (λ name. not (bytes_eq first.name name) && variables_write name rest) _ _
+    (option_walk fields locals first.initial)
+    (variables_walk fields (first.name ∷ locals) rest
+    ∙ some_hidden fields locals first.name (λ name. variables_write name rest))
+
+mutual
+  stmt_walk : (fields : List (List ℕ)) (locals : Locals) (s : tree.Stmt)
+      → stmt_writes_field fields locals s ≡ some_field fields locals (λ name. stmt_writes name s)
+  stmt_walk fields locals tree.Empty = some_none fields locals
+  stmt_walk fields locals (tree.Compose statement) = some_none fields locals
+  stmt_walk fields locals (tree.Block body) = stmts_walk fields locals body
+  stmt_walk fields locals (tree.Declare kind variables) = variables_walk fields locals variables
+  stmt_walk fields locals (tree.Evaluate value) = expr_walk fields locals value
+  stmt_walk fields locals (tree.Assign assigned operator value) =
+      both fields locals (bytes_eq assigned) (λ name. expr_writes name value) _ _
+      (some_named fields locals assigned) (expr_walk fields locals value)
+  stmt_walk fields locals (tree.AssignElement array index operator value) =
+      both fields locals (bytes_eq array)
+      (λ name. expr_writes name index || expr_writes name value) _ _
+      (some_named fields locals array)
+      (both fields locals (λ name. expr_writes name index) (λ name. expr_writes name value) _ _
+      (expr_walk fields locals index) (expr_walk fields locals value))
+  stmt_walk fields locals (tree.If condition chosen) =
+      both fields locals (λ name. expr_writes name condition) (λ name. stmt_writes name chosen) _ _
+      (expr_walk fields locals condition) (stmt_walk fields locals chosen)
+  stmt_walk fields locals (tree.IfElse condition chosen other) =
+      both fields locals (λ name. expr_writes name condition)
+      (λ name. stmt_writes name chosen || stmt_writes name other) _ _
+      (expr_walk fields locals condition)
+      (both fields locals (λ name. stmt_writes name chosen) (λ name. stmt_writes name other) _ _
+      (stmt_walk fields locals chosen) (stmt_walk fields locals other))
+  stmt_walk fields locals (tree.While condition body) =
+      both fields locals (λ name. expr_writes name condition) (λ name. stmt_writes name body) _ _
+      (expr_walk fields locals condition) (stmt_walk fields locals body)
+  stmt_walk fields locals (tree.For first condition step body) =
+      let inside : Locals = locals_after locals first in
+      both fields locals (λ name. stmt_writes name first)
+      (λ name. not (shadows name first) && (option_writes name condition
+      || (stmt_writes name step || stmt_writes name body))) _ _
+      (stmt_walk fields locals first)
+      (both fields inside (λ name. option_writes name condition)
+      (λ name. stmt_writes name step || stmt_writes name body) _ _
+      (option_walk fields inside condition)
+      (both fields inside (λ name. stmt_writes name step) (λ name. stmt_writes name body) _ _
+      (stmt_walk fields inside step) (stmt_walk fields inside body))
+      ∙ some_after fields locals first (λ name. option_writes name condition
+      || (stmt_writes name step || stmt_writes name body)))
+  stmt_walk fields locals (tree.Push value) = expr_walk fields locals value
+  stmt_walk fields locals (tree.Print value) = expr_walk fields locals value
+  stmt_walk fields locals (tree.Println value) = expr_walk fields locals value
+
+  stmts_walk : (fields : List (List ℕ)) (locals : Locals) (s : tree.Stmts)
+      → stmts_write_field fields locals s ≡ some_field fields locals (λ name. stmts_write name s)
+  stmts_walk fields locals tree.Done = some_none fields locals
+  stmts_walk fields locals (tree.Then first rest) =
+      both fields locals (λ name. stmt_writes name first)
+      (λ name. not (shadows name first) && stmts_write name rest) _ _
+      (stmt_walk fields locals first)
+      (stmts_walk fields (locals_after locals first) rest
+      ∙ some_after fields locals first (λ name. stmts_write name rest))
+
+-- ---- all fields, before any local variable
+
+some_one_of : (fields : List (List ℕ)) (block : tree.Stmts)
+    → some_field fields [] (λ name. stmts_write name block) ≡ write_one_of fields block
+some_one_of [] block = refl
+some_one_of (name ∷ rest) block = ap (λ t. stmts_write name block || t) (some_one_of rest block)
+
+one_of-append : (first second : List (List ℕ)) (block : tree.Stmts)
+    → write_one_of (first ++ second) block
+    ≡ (write_one_of first block || write_one_of second block)
+one_of-append [] second block = refl
+one_of-append (name ∷ rest) second block =
+    ap (λ t. stmts_write name block || t) (one_of-append rest second block)
+    ∙ joined (stmts_write name block) (write_one_of rest block) (write_one_of second block)
+  where
+    joined : (a b c : Bool) → (a || (b || c)) ≡ ((a || b) || c)
+    joined true b c = refl
+    joined false b c = refl
+
+one_of_declared : (names : List (List ℕ)) (variables : List tree.Variable) (block : tree.Stmts)
+    → write_one_of (with_locals names variables) block
+    ≡ (write_one_of (declared_names variables) block || write_one_of names block)
+one_of_declared names [] block = refl
+one_of_declared names (first ∷ rest) block =
+    one_of_declared (first.name ∷ names) rest block
+    ∙ or_moved (write_one_of (declared_names rest) block) (stmts_write first.name block)
+    (write_one_of names block)
+
+one_of_fields : (names : List (List ℕ)) (members : List tree.Member) (block : tree.Stmts)
+    → write_one_of (with_fields names members) block
+    ≡ (write_one_of (field_names members) block || write_one_of names block)
+one_of_fields names [] block = refl
+one_of_fields names (tree.Fields kind variables ∷ rest) block =
+    one_of_fields (with_locals names variables) rest block
+    ∙ ap (λ t. write_one_of (field_names rest) block || t) (one_of_declared names variables block)
+    ∙ or_moved (write_one_of (field_names rest) block)
+    (write_one_of (declared_names variables) block) (write_one_of names block)
+    ∙ ap (λ t. t || write_one_of names block)
+    (sym (one_of-append (declared_names variables) (field_names rest) block))
+one_of_fields names (tree.Init body ∷ rest) block = one_of_fields names rest block
+one_of_fields names (tree.Prework rates body ∷ rest) block = one_of_fields names rest block
+one_of_fields names (tree.Work rates body ∷ rest) block = one_of_fields names rest block
+
+-- a walk that begins with the names of all fields
+pub walk_tells : (members : List tree.Member) (block : tree.Stmts)
+    → stmts_write_field (with_fields [] members) [] block
+    ≡ write_one_of (field_names members) block
+walk_tells members block =
+    stmts_walk (with_fields [] members) [] block
+    ∙ (some_one_of (with_fields [] members) block
+    ∙ (one_of_fields [] members block
+    ∙ or_false (write_one_of (field_names members) block)))

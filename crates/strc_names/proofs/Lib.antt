@@ -1,4 +1,0 @@
-pub mod Tables
-pub mod Scopes
-pub mod Numbered
-pub mod ScopeMaps

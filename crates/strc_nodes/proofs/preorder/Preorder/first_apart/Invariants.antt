@@ -1,5 +1,0 @@
-use Rattle.std.proofs.Common.{◌≡◌, length}
-use Rattle.strc_nodes.proofs.preorder.Preorder.first_apart.Given as goal
-
-abbrev pub invariant-loop-turn : goal.invariant-loop-turn
-invariant-loop-turn l = length l.joined.items ≡ length l.self.nodes.items

@@ -1,5 +1,0 @@
-use Rattle.strc_order.proofs.CopyPeaks.{copy_of_two_firings}
-use Rattle.strc_order.proofs.laws.copy_of_two_firings.Goals as goal
-
-pub returns : goal.returns
-returns c = copy_of_two_firings

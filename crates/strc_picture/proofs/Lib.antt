@@ -1,3 +1,0 @@
-mod Boxes
-mod Shares
-mod Texts

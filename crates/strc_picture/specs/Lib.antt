@@ -1,5 +1,0 @@
-pub mod Marks
-pub mod Parts
-pub mod Pictures
-pub mod Stages
-pub mod Lists

@@ -1,6 +1,0 @@
-mod Timely
-mod Acting
-mod Moving
-mod Happening
-mod Beginning
-mod Advancing

@@ -1,0 +1,135 @@
+// What the statements of a text add, and where the parts of a composite stream are: its `split` and
+// its `join`.
+
+use crate::known::Known;
+use strc_base::place::Span;
+use strc_check::site::Part;
+use strc_syntax::tree::{Child, Composition, Decl, Stmt, StreamTree};
+
+/// The first `split` or `join` of the composite stream that a statement adds; without a statement
+/// of the main stream.
+pub fn part_statement(known: Known<'_>, added: Option<Span>, part: Part) -> Option<Span> {
+    let block = match added {
+        Some(place) => block_added(known, place)?,
+        None => block_of(known.main()?)?,
+    };
+    part_in_block(block, part)
+}
+
+/// The block of the composite stream that a statement adds.
+fn block_added<'a>(known: Known<'a>, place: Span) -> Option<&'a [Stmt]> {
+    match child_added(known.declarations(), place)? {
+        Child::Named(name, _) => block_of(known.declaration_named(name.as_bytes())?),
+        Child::Composite(_, _, block) => Some(block),
+        Child::Identity(_) | Child::FileReader(_) | Child::FileWriter(_) | Child::Filter(_, _) => {
+            None
+        }
+    }
+}
+
+/// The block of a declared composite stream.
+pub fn block_of(declaration: &Decl) -> Option<&[Stmt]> {
+    match &declaration.stream {
+        StreamTree::Composite(composite) => Some(&composite.block),
+        StreamTree::Filter(_) => None,
+    }
+}
+
+/// The child that the statement at a place adds.
+pub fn child_added(declarations: &[Decl], place: Span) -> Option<&Child> {
+    for declaration in declarations {
+        if let Some(block) = block_of(declaration) {
+            if let Some(child) = child_in_block(block, place) {
+                return Some(child);
+            }
+        }
+    }
+    None
+}
+
+#[cycle(child)]
+fn child_in_block(block: &[Stmt], place: Span) -> Option<&Child> {
+    for statement in block {
+        if let Some(child) = child_in(statement, place) {
+            return Some(child);
+        }
+    }
+    None
+}
+
+/// The child that the statement at a place adds, where it is this statement or one inside of it.
+#[cycle(child)]
+fn child_in(statement: &Stmt, place: Span) -> Option<&Child> {
+    match statement {
+        Stmt::Placed(own, inner) => {
+            if own.start > place.start || own.end < place.end {
+                None
+            } else if own.start == place.start {
+                child_of(inner)
+            } else {
+                child_in(inner, place)
+            }
+        }
+        Stmt::Block(block) => child_in_block(block, place),
+        Stmt::If(_, chosen) | Stmt::While(_, chosen) | Stmt::For(_, _, _, chosen) => {
+            child_in(chosen, place)
+        }
+        Stmt::IfElse(_, chosen, other) => match child_in(chosen, place) {
+            Some(child) => Some(child),
+            None => child_in(other, place),
+        },
+        Stmt::Compose(Composition::Child(_, Child::Composite(_, _, block))) => {
+            child_in_block(block, place)
+        }
+        _ => None,
+    }
+}
+
+/// The child that a statement adds.
+fn child_of(statement: &Stmt) -> Option<&Child> {
+    match statement {
+        Stmt::Compose(Composition::Child(_, child)) => Some(child),
+        _ => None,
+    }
+}
+
+#[cycle(part)]
+fn part_in_block(block: &[Stmt], part: Part) -> Option<Span> {
+    for statement in block {
+        if let Some(place) = part_in(statement, part) {
+            return Some(place);
+        }
+    }
+    None
+}
+
+/// The first `split` or `join` in a statement, without those of children.
+#[cycle(part)]
+fn part_in(statement: &Stmt, part: Part) -> Option<Span> {
+    match statement {
+        Stmt::Placed(place, inner) => {
+            if is_part(inner, part) {
+                Some(*place)
+            } else {
+                part_in(inner, part)
+            }
+        }
+        Stmt::Block(block) => part_in_block(block, part),
+        Stmt::If(_, chosen) | Stmt::While(_, chosen) | Stmt::For(_, _, _, chosen) => {
+            part_in(chosen, part)
+        }
+        Stmt::IfElse(_, chosen, other) => match part_in(chosen, part) {
+            Some(place) => Some(place),
+            None => part_in(other, part),
+        },
+        _ => None,
+    }
+}
+
+fn is_part(statement: &Stmt, part: Part) -> bool {
+    match statement {
+        Stmt::Compose(Composition::Split(_)) => part == Part::Split,
+        Stmt::Compose(Composition::Join(_)) => part == Part::Join,
+        _ => false,
+    }
+}

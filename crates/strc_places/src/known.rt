@@ -1,0 +1,62 @@
+// What is known of a program that a message is about.
+
+use std::alloc::Global;
+use strc_base::place::Span;
+use strc_graph::graph::Graph;
+use strc_source::preorder::Preorder;
+use strc_source::source::Source;
+use strc_syntax::tree::{Decl, ItemType, Program, StreamTree};
+
+/// A program's text, and of its tree, the nodes of its main stream and its flat graph those that it
+/// has.
+#[derive(Clone, Copy)]
+pub struct Known<'a> {
+    pub alloc: Global,
+    pub source: Source<'a>,
+    pub program: Option<&'a Program>,
+    pub nodes: Option<&'a Preorder>,
+    pub graph: Option<&'a Graph>,
+}
+
+impl<'a> Known<'a> {
+    /// The declarations of the program; none where it has no tree.
+    pub fn declarations(self) -> &'a [Decl] {
+        match self.program {
+            Some(program) => &program.declarations,
+            None => &[],
+        }
+    }
+
+    /// The name of a declaration, by the declaration's number.
+    pub fn declaration_numbered(self, number: usize) -> Option<Span> {
+        self.declarations().get(number)?.name.place()
+    }
+
+    /// The declaration of a name.
+    pub fn declaration_named(self, name: &[u8]) -> Option<&'a Decl> {
+        self.declarations()
+            .iter()
+            .find(|declaration| declaration.name.as_bytes() == name)
+    }
+
+    /// The main stream: the one that is asked for, or else the first that can be it.
+    pub fn main(self) -> Option<&'a Decl> {
+        match self.source.main {
+            Some(name) => self.declaration_named(name.as_bytes()),
+            None => self.declarations().iter().find(|it| can_be_main(it)),
+        }
+    }
+}
+
+/// Whether a declaration can be the main stream: it is void->void and has no parameters.
+pub fn can_be_main(declaration: &Decl) -> bool {
+    let (input, output) = match &declaration.stream {
+        StreamTree::Filter(filter) => (filter.input, filter.output),
+        StreamTree::Composite(composite) => (composite.types.input, composite.types.output),
+    };
+    let is_plain = match &declaration.parameters {
+        Some(names) => names.is_empty(),
+        None => true,
+    };
+    is_plain && input == ItemType::Void && output == ItemType::Void
+}

@@ -1,0 +1,21 @@
+// Takes why a text is refused, or how its run faulted, and what is known of it: stream and graph.
+// Gives the part of the text that it is about: a statement, a rate, a name, an operator.
+// The theorem to rely on: it is safe and total; which part it finds is tested by whole messages.
+// Stands on strc_source, which knows the text's tokens, on strc_source, which walks over streams,
+// on strc_refusal, whose refusals these are, on strc_stream, strc_graph and strc_code, whose
+// filters know their text, on strc_rate and strc_interval, which count and compute it, and on
+// strc_parse, which reads the text's own tree.
+#![tactic(auto)]
+
+pub mod bodies;
+pub mod composites;
+pub mod counted;
+pub mod depth;
+pub mod known;
+pub mod moved;
+pub mod occurrences;
+pub mod operators;
+pub mod origins;
+pub mod places;
+pub mod recursion;
+pub mod starts;

@@ -1,0 +1,227 @@
+// The statements of a filter's body in which something occurs, in order of the text.
+
+use std::alloc::Global;
+use strc_base::memory::NoMemory;
+use strc_base::place::Span;
+use strc_interval::constant::constant;
+use strc_semantics::fault::Cause;
+use strc_syntax::tree::{AssignOperator, BinaryOperator, Expr, Member, Stmt, Variable};
+
+/// What is looked for.
+#[derive(Clone, Copy, PartialEq)]
+pub enum Sought {
+    /// A division, or a remainder, by what can be zero.
+    Division,
+    /// An element of an array.
+    Element,
+    Peek,
+    Loop,
+}
+
+/// A walk over a body.
+#[derive(Drop)]
+struct Walk {
+    sought: Sought,
+    /// Of each occurrence the innermost statement with a place.
+    found: Vec<Option<Span>>,
+}
+
+/// Of each occurrence in a body the statement that it is in.
+pub fn occurrences(
+    alloc: Global,
+    block: &[Stmt],
+    sought: Sought,
+) -> Result<Vec<Option<Span>>, NoMemory> {
+    let mut walk = Walk {
+        sought,
+        found: Vec::new(alloc),
+    };
+    walk_block(block, None, &mut walk)?;
+    let Walk { sought: _, found } = walk;
+    Ok(found)
+}
+
+/// The same of what a filter starts with: the initialisers of its fields, and `init`.
+pub fn occurrences_at_start(
+    alloc: Global,
+    members: &[Member],
+    sought: Sought,
+) -> Result<Vec<Option<Span>>, NoMemory> {
+    let mut walk = Walk {
+        sought,
+        found: Vec::new(alloc),
+    };
+    for member in members {
+        match member {
+            Member::Fields(fields) => {
+                walk_variables(&fields.variables, Some(fields.place), &mut walk)?;
+            }
+            Member::Init(block) => walk_block(block, None, &mut walk)?,
+            Member::Prework(_, _) | Member::Work(_, _) => {}
+        }
+    }
+    let Walk { sought: _, found } = walk;
+    Ok(found)
+}
+
+#[cycle(statement)]
+fn walk_block(block: &[Stmt], here: Option<Span>, walk: &mut Walk) -> Result<(), NoMemory> {
+    for statement in block {
+        walk_statement(statement, here, walk)?;
+    }
+    Ok(())
+}
+
+#[cycle(statement)]
+fn walk_statement(statement: &Stmt, here: Option<Span>, walk: &mut Walk) -> Result<(), NoMemory> {
+    match statement {
+        Stmt::Empty | Stmt::Compose(_) => Ok(()),
+        Stmt::Block(body) => walk_block(body, here, walk),
+        Stmt::Placed(place, inner) => walk_statement(inner, Some(*place), walk),
+        Stmt::Declare(declared) => walk_variables(&declared.variables, here, walk),
+        Stmt::Evaluate(value) | Stmt::Push(value) | Stmt::Print(value) | Stmt::Println(value) => {
+            walk_expression(value, here, walk)
+        }
+        Stmt::Assign(_, operator, value) => {
+            walk_expression(value, here, walk)?;
+            walk.assigned(*operator, value, here)
+        }
+        Stmt::AssignElement(_, index, operator, value) => {
+            walk_expression(index, here, walk)?;
+            walk_expression(value, here, walk)?;
+            walk.meet(Sought::Element, here)?;
+            walk.assigned(*operator, value, here)
+        }
+        Stmt::If(condition, chosen) => {
+            walk_expression(condition, here, walk)?;
+            walk_statement(chosen, here, walk)
+        }
+        Stmt::IfElse(condition, chosen, other) => {
+            walk_expression(condition, here, walk)?;
+            walk_statement(chosen, here, walk)?;
+            walk_statement(other, here, walk)
+        }
+        Stmt::While(condition, body) => {
+            walk.meet(Sought::Loop, here)?;
+            walk_expression(condition, here, walk)?;
+            walk_statement(body, here, walk)
+        }
+        Stmt::For(first, condition, step, body) => {
+            walk.meet(Sought::Loop, here)?;
+            walk_statement(first, here, walk)?;
+            walk_option(condition, here, walk)?;
+            walk_statement(step, here, walk)?;
+            walk_statement(body, here, walk)
+        }
+    }
+}
+
+fn walk_variables(
+    variables: &[Variable],
+    here: Option<Span>,
+    walk: &mut Walk,
+) -> Result<(), NoMemory> {
+    for variable in variables {
+        walk_option(&variable.initial, here, walk)?;
+    }
+    Ok(())
+}
+
+fn walk_option(value: &Option<Expr>, here: Option<Span>, walk: &mut Walk) -> Result<(), NoMemory> {
+    match value {
+        Some(value) => walk_expression(value, here, walk),
+        None => Ok(()),
+    }
+}
+
+#[cycle(expression)]
+fn walk_expression(value: &Expr, here: Option<Span>, walk: &mut Walk) -> Result<(), NoMemory> {
+    match value {
+        Expr::Number(_) | Expr::Truth(_) | Expr::Read(_) | Expr::Pop | Expr::Step(_, _) => Ok(()),
+        Expr::Group(inner) | Expr::Unary(_, inner) => walk_expression(inner, here, walk),
+        Expr::Peek(index) => {
+            walk_expression(index, here, walk)?;
+            walk.meet(Sought::Peek, here)
+        }
+        Expr::Element(_, index) | Expr::StepElement(_, _, index) => {
+            walk_expression(index, here, walk)?;
+            walk.meet(Sought::Element, here)
+        }
+        Expr::Binary(operator, left, right) => {
+            walk_expression(left, here, walk)?;
+            walk_expression(right, here, walk)?;
+            if divides(*operator) && can_be_zero(right) {
+                walk.meet(Sought::Division, here)?;
+            }
+            Ok(())
+        }
+        Expr::Conditional(condition, chosen, other) => {
+            walk_expression(condition, here, walk)?;
+            walk_expression(chosen, here, walk)?;
+            walk_expression(other, here, walk)
+        }
+    }
+}
+
+/// What can have a fault of this cause.
+pub fn sought_for(cause: Cause) -> Sought {
+    match cause {
+        Cause::DivZero => Sought::Division,
+        Cause::Index => Sought::Element,
+        Cause::PeekRange => Sought::Peek,
+        Cause::Turns => Sought::Loop,
+    }
+}
+
+/// The place that all these are.
+pub fn single(places: &[Option<Span>]) -> Option<Span> {
+    let first = (*places.first()?)?;
+    let is_same = |place: &Option<Span>| match place {
+        Some(place) => place.start == first.start,
+        None => false,
+    };
+    if places.iter().all(is_same) {
+        Some(first)
+    } else {
+        None
+    }
+}
+
+impl Walk {
+    /// Something occurs in a statement.
+    fn meet(&mut self, occurs: Sought, here: Option<Span>) -> Result<(), NoMemory> {
+        if self.sought == occurs {
+            self.found.push(here)?;
+        }
+        Ok(())
+    }
+
+    /// A value is assigned, by an operator that may divide by it.
+    fn assigned(
+        &mut self,
+        operator: AssignOperator,
+        value: &Expr,
+        here: Option<Span>,
+    ) -> Result<(), NoMemory> {
+        match operator {
+            AssignOperator::Divide | AssignOperator::Remainder if can_be_zero(value) => {
+                self.meet(Sought::Division, here)
+            }
+            _ => Ok(()),
+        }
+    }
+}
+
+fn divides(operator: BinaryOperator) -> bool {
+    match operator {
+        BinaryOperator::Divide | BinaryOperator::Remainder => true,
+        _ => false,
+    }
+}
+
+fn can_be_zero(value: &Expr) -> bool {
+    match constant(value) {
+        Some(number) => number == 0,
+        None => true,
+    }
+}

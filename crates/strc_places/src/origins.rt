@@ -1,0 +1,55 @@
+// Where the nodes and the channels of a program come from.
+
+use crate::composites::part_statement;
+use crate::known::Known;
+use strc_base::place::Span;
+use strc_source::preorder::Origin;
+
+/// The declaration of a node's filter, or else the statement that the node comes from.
+pub fn place_of_node(known: Known<'_>, node: usize) -> Option<Span> {
+    match declaration_of(known, node) {
+        Some(place) => Some(place),
+        None => statement_of(known, node),
+    }
+}
+
+/// The statement that a node comes from.
+pub fn statement_of(known: Known<'_>, node: usize) -> Option<Span> {
+    let origin = origin_of(known, node)?;
+    let place = match origin.part {
+        Some(part) => part_statement(known, origin.added, part)?,
+        None => origin.added?,
+    };
+    Some(known.source.heading(place))
+}
+
+/// The name by which a node's filter is declared.
+fn declaration_of(known: Known<'_>, node: usize) -> Option<Span> {
+    origin_of(known, node)?.declared
+}
+
+fn origin_of(known: Known<'_>, node: usize) -> Option<Origin> {
+    Some(known.nodes?.nodes.get(node)?.origin)
+}
+
+/// The declaration of the filter at a channel's source, or else of that at its target, or the
+/// statement that one of them comes from.
+pub fn place_of_channel(known: Known<'_>, channel: usize) -> Option<Span> {
+    let (from, to) = ends_of(known, channel)?;
+    if let Some(place) = declaration_of(known, from) {
+        return Some(place);
+    }
+    if let Some(place) = declaration_of(known, to) {
+        return Some(place);
+    }
+    match statement_of(known, from) {
+        Some(place) => Some(place),
+        None => statement_of(known, to),
+    }
+}
+
+/// The nodes at the two ends of a channel.
+pub fn ends_of(known: Known<'_>, channel: usize) -> Option<(usize, usize)> {
+    let found = known.graph?.channels().get(channel)?;
+    Some((found.source.node as usize, found.target.node as usize))
+}

@@ -1,0 +1,134 @@
+-- What a closed peek promises: in each run its item is in the window. A walk over the text goes as
+-- its meaning does, keeps the number of the next peek among those of the text, and asks this of
+-- each peek that is run.
+use Rattle.std.specs.Prelude.{◌≡◌, ℕ, zero, suc, ◌+◌, ℤ, Bool, true, false, List, [], ◌∷◌, length}
+use Rattle.std.specs.Prelude.{get_or, Option, Some, None, Result, IfOk, IsSome}
+use Rattle.std.specs.Bool.{MatchBool}
+use Rattle.strc_base.specs.Results.{result_and_then}
+use Rattle.strc_syntax.specs.Tree as tree
+use Rattle.strc_semantics.specs.declared.fault.Cause.{Cause}
+use Rattle.strc_semantics.specs.Arithmetic.{is_true}
+use Rattle.strc_semantics.specs.Constants.{decides}
+use Rattle.strc_semantics.specs.Scoping.{cells_of}
+use Rattle.strc_semantics.specs.Firing.{Port, Store, item_ahead, value_of, initial_cells}
+use Rattle.strc_semantics.specs.Firing.{declared_in, condition_value, turned, turn_limit, inside}
+use Rattle.strc_semantics.specs.Firing.{stmt_done}
+use Rattle.strc_rate.specs.Entries.{peeks_of_expr, peeks_of_option, peeks_of_stmt}
+
+-- the item of a peek whose entry is closed is in the window, where the index has a value
+abbrev pub PeekIsSafe : Port → (closed : List Bool) → (place : ℕ) → (index : tree.Expr) → Store
+    → Type 0
+PeekIsSafe port closed place index store =
+    get_or closed place false ≡ true → IfOk (value_of port index store)
+    (λ given. IsSome (item_ahead port given.1.traffic.popped given.0))
+
+-- each closed peek of an expression that is run in this store; the first has this number
+abbrev pub ExprIsSafe : Port → (closed : List Bool) → (place : ℕ) → tree.Expr → Store → Type 0
+ExprIsSafe port closed place (tree.Number value) store = Unit {0}
+ExprIsSafe port closed place (tree.Truth value) store = Unit {0}
+ExprIsSafe port closed place (tree.Read name) store = Unit {0}
+ExprIsSafe port closed place (tree.Element name index) store =
+    ExprIsSafe port closed place index store
+ExprIsSafe port closed place tree.Pop store = Unit {0}
+ExprIsSafe port closed place (tree.Peek index) store =
+    ExprIsSafe port closed place index store
+    × PeekIsSafe port closed (place + length (peeks_of_expr index)) index store
+ExprIsSafe port closed place (tree.Group inner) store = ExprIsSafe port closed place inner store
+ExprIsSafe port closed place (tree.Unary operator operand) store =
+    ExprIsSafe port closed place operand store
+ExprIsSafe port closed place (tree.Step operator name) store = Unit {0}
+ExprIsSafe port closed place (tree.StepElement operator name index) store =
+    ExprIsSafe port closed place index store
+ExprIsSafe port closed place (tree.Binary operator left right) store =
+    ExprIsSafe port closed place left store
+    × IfOk (value_of port left store) (λ first.
+    MatchBool (decides operator first.0) (Unit {0})
+    (ExprIsSafe port closed (place + length (peeks_of_expr left)) right first.1))
+ExprIsSafe port closed place (tree.Conditional condition chosen other) store =
+    let past = place + length (peeks_of_expr condition) in
+    ExprIsSafe port closed place condition store
+    × IfOk (value_of port condition store) (λ test.
+    MatchBool (is_true test.0) (ExprIsSafe port closed past chosen test.1)
+    (ExprIsSafe port closed (past + length (peeks_of_expr chosen)) other test.1))
+
+abbrev pub OptionIsSafe : Port → (closed : List Bool) → (place : ℕ) → Option tree.Expr → Store
+    → Type 0
+OptionIsSafe port closed place None store = Unit {0}
+OptionIsSafe port closed place (Some value) store = ExprIsSafe port closed place value store
+
+abbrev pub VariablesAreSafe : Port → (closed : List Bool) → (place : ℕ) → (cells : ℕ)
+    → List tree.Variable → Store → Type 0
+VariablesAreSafe port closed place cells [] store = Unit {0}
+VariablesAreSafe port closed place cells (first ∷ rest) store =
+    OptionIsSafe port closed place first.initial store
+    × IfOk (initial_cells port cells first.initial store) (λ given.
+    VariablesAreSafe port closed (place + length (peeks_of_option first.initial)) cells rest
+    (declared_in given.1 first.name given.0))
+
+-- each turn of a loop
+abbrev pub LoopIsSafe : (fuel : ℕ) → (test_safe turn_safe : Store → Type 0)
+    → (test : Store → Result (ℤ × Store) Cause) → (body : Store → Result Store Cause) → Store
+    → Type 0
+LoopIsSafe zero test_safe turn_safe test body store = Unit {0}
+LoopIsSafe (suc fuel) test_safe turn_safe test body store =
+    test_safe store
+    × IfOk (test store) (λ tested.
+    MatchBool (is_true tested.0)
+    (IfOk (turned tested.1) (λ turning. turn_safe turning
+    × IfOk (body turning) (LoopIsSafe fuel test_safe turn_safe test body)))
+    (Unit {0}))
+
+abbrev mutual
+  -- each closed peek of a statement that is run from this store
+  pub StmtIsSafe : Port → (closed : List Bool) → (place : ℕ) → tree.Stmt → Store → Type 0
+  StmtIsSafe port closed place tree.Empty store = Unit {0}
+  StmtIsSafe port closed place (tree.Compose statement) store = Unit {0}
+  StmtIsSafe port closed place (tree.Block body) store = StmtsAreSafe port closed place body store
+  StmtIsSafe port closed place (tree.Declare kind variables) store =
+      VariablesAreSafe port closed place (cells_of kind) variables store
+  StmtIsSafe port closed place (tree.Evaluate value) store =
+      ExprIsSafe port closed place value store
+  StmtIsSafe port closed place (tree.Assign name operator value) store =
+      ExprIsSafe port closed place value store
+  StmtIsSafe port closed place (tree.AssignElement name index operator value) store =
+      ExprIsSafe port closed place index store
+      × IfOk (value_of port index store) (λ at.
+      ExprIsSafe port closed (place + length (peeks_of_expr index)) value at.1)
+  StmtIsSafe port closed place (tree.If condition chosen) store =
+      ExprIsSafe port closed place condition store
+      × IfOk (value_of port condition store) (λ test.
+      MatchBool (is_true test.0)
+      (StmtIsSafe port closed (place + length (peeks_of_expr condition)) chosen test.1) (Unit {0}))
+  StmtIsSafe port closed place (tree.IfElse condition chosen other) store =
+      let past = place + length (peeks_of_expr condition) in
+      ExprIsSafe port closed place condition store
+      × IfOk (value_of port condition store) (λ test.
+      MatchBool (is_true test.0) (StmtIsSafe port closed past chosen test.1)
+      (StmtIsSafe port closed (past + length (peeks_of_stmt chosen)) other test.1))
+  StmtIsSafe port closed place (tree.While condition body) store =
+      LoopIsSafe (suc turn_limit) (λ s. ExprIsSafe port closed place condition s)
+      (λ s. StmtIsSafe port closed (place + length (peeks_of_expr condition)) body s)
+      (value_of port condition) (inside (stmt_done port body)) store
+  StmtIsSafe port closed place (tree.For first condition step body) store =
+      let test_place = place + length (peeks_of_stmt first) in
+      let step_place = test_place + length (peeks_of_option condition) in
+      let body_place = step_place + length (peeks_of_stmt step) in
+      StmtIsSafe port closed place first store
+      × IfOk (stmt_done port first store) (LoopIsSafe (suc turn_limit)
+      (λ s. OptionIsSafe port closed test_place condition s)
+      (λ s. StmtIsSafe port closed body_place body s
+      × IfOk (inside (stmt_done port body) s)
+      (λ after. StmtIsSafe port closed step_place step after))
+      (condition_value port condition) (λ turn. result_and_then (inside (stmt_done port body) turn)
+      (inside (stmt_done port step))))
+  StmtIsSafe port closed place (tree.Push value) store = ExprIsSafe port closed place value store
+  StmtIsSafe port closed place (tree.Print value) store = ExprIsSafe port closed place value store
+  StmtIsSafe port closed place (tree.Println value) store = ExprIsSafe port closed place value store
+
+  -- each closed peek of statements in a row that is run from this store
+  pub StmtsAreSafe : Port → (closed : List Bool) → (place : ℕ) → tree.Stmts → Store → Type 0
+  StmtsAreSafe port closed place tree.Done store = Unit {0}
+  StmtsAreSafe port closed place (tree.Then first rest) store =
+      StmtIsSafe port closed place first store
+      × IfOk (stmt_done port first store) (λ middle.
+      StmtsAreSafe port closed (place + length (peeks_of_stmt first)) rest middle)

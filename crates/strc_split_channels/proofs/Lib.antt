@@ -1,5 +1,0 @@
-pub mod Sources
-pub mod NewSources
-pub mod NewEnds
-pub mod Fed
-pub mod ByChannels

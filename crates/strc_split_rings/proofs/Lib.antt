@@ -1,9 +1,0 @@
-pub mod Own
-pub mod Running
-pub mod Room
-pub mod Rings
-pub mod Started
-pub mod Plans
-pub mod Tapes
-pub mod Naming
-pub mod PlanRuns

@@ -1,0 +1,14 @@
+pub mod Texts
+pub mod Places
+pub mod Bindings
+pub mod Captures
+pub mod Saying
+pub mod Simple
+pub mod Statements
+pub mod Answers
+pub mod MainStreams
+pub mod Names
+pub mod Written
+pub mod Sides
+pub mod Weights
+pub mod Splits

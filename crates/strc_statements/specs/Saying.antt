@@ -1,0 +1,24 @@
+-- How code that evaluates and runs answers.
+use Rattle.std.specs.Prelude.{◌≡◌, ℤ, Result, Ok, Err}
+use Rattle.strc_semantics.specs.Firing as firing
+use Rattle.strc_semantics.specs.Firing.{no_traffic}
+use Rattle.strc_semantics.specs.declared.fault.Cause.{Cause}
+use Rattle.strc_statements.specs.declared.store.Store.{Store}
+
+-- the variables' values, and how many turns there were
+abbrev pub store_of : Store → firing.Store
+store_of store = record {
+  variables = store.variables.variables;
+  traffic =
+      record no_traffic { turns = store.turns };
+}
+
+-- an answer is what an evaluation gives, with the store after it, or its fault
+abbrev pub Evaluates : Result (ℤ × firing.Store) Cause → Result ℤ Cause → firing.Store → Type 0
+Evaluates outcome (Ok value) after = outcome ≡ Ok (value, after)
+Evaluates outcome (Err cause) after = outcome ≡ Err cause
+
+-- an answer is what a statement does, with the store after it, or its fault
+abbrev pub Does : Result firing.Store Cause → Result (Unit {0}) Cause → firing.Store → Type 0
+Does outcome (Ok done) after = outcome ≡ Ok after
+Does outcome (Err cause) after = outcome ≡ Err cause

@@ -1,5 +1,0 @@
-use Rattle.strc_typing.proofs.Numbers.{number_is_one}
-use Rattle.strc_typing.proofs.laws.numbers_are_unique.Goals as goal
-
-pub returns : goal.returns
-returns c = number_is_one

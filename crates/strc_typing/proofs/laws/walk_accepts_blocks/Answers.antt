@@ -1,5 +1,0 @@
-use Rattle.strc_typing.proofs.Statements.{walk_accepts_block}
-use Rattle.strc_typing.proofs.laws.walk_accepts_blocks.Goals as goal
-
-pub returns : goal.returns
-returns c = walk_accepts_block

@@ -1,5 +1,0 @@
-use Rattle.strc_typing.proofs.Filters.{walk_accepts_filter}
-use Rattle.strc_typing.proofs.laws.walk_accepts_filters.Goals as goal
-
-pub returns : goal.returns
-returns c = walk_accepts_filter

@@ -1,5 +1,0 @@
-use Rattle.strc_typing.proofs.TypesOfExpressions.{walk_accepts_value}
-use Rattle.strc_typing.proofs.laws.walk_accepts_values.Goals as goal
-
-pub returns : goal.returns
-returns c = walk_accepts_value

@@ -1,5 +1,0 @@
-use Rattle.strc_typing.proofs.Numbers.{walk_gives_number}
-use Rattle.strc_typing.proofs.laws.walk_gives_numbers.Goals as goal
-
-pub returns : goal.returns
-returns c = walk_gives_number

@@ -1,5 +1,0 @@
-use Rattle.strc_typing.proofs.TypesOfExpressions.{walk_gives_type}
-use Rattle.strc_typing.proofs.laws.walk_gives_types.Goals as goal
-
-pub returns : goal.returns
-returns c = walk_gives_type

@@ -1,4 +1,0 @@
-pub mod Dealing
-pub mod Refusals
-pub mod TypeRows
-pub mod WeightsMeet

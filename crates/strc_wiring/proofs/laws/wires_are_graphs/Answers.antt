@@ -1,5 +1,0 @@
-use Rattle.strc_wiring.proofs.Whole.{wires_are_graphs}
-use Rattle.strc_wiring.proofs.laws.wires_are_graphs.Goals as goal
-
-pub returns : goal.returns
-returns c = wires_are_graphs

@@ -1,0 +1,5 @@
+use Rattle.strc_work.proofs.Statements.{walk_accepts_stmt}
+use Rattle.strc_work.proofs.laws.walk_accepts_statements.Goals as goal
+
+pub returns : goal.returns
+returns c = walk_accepts_stmt

@@ -1,0 +1,299 @@
+-- Small expressions, statements and filters that are well typed, and some that aren't.
+use Rattle.std.specs.Prelude.{ℕ, ℤ, pos, true, List, [], ◌∷◌, Option, Some, None}
+use Rattle.strc_syntax.specs.Tree as tree
+use Rattle.strc_syntax.specs.declared.tree.ItemType.{ItemType}
+use Rattle.strc_syntax.specs.declared.tree.ItemType.TheVariants as item
+use Rattle.strc_syntax.specs.declared.tree.RateKind.{RateKind}
+use Rattle.strc_syntax.specs.declared.tree.RateKind.TheVariants as rate
+use Rattle.strc_syntax.specs.declared.tree.AssignOperator.TheVariants as assign
+use Rattle.strc_syntax.specs.declared.tree.UnaryOperator.TheVariants as unary
+use Rattle.strc_syntax.specs.declared.tree.BinaryOperator.TheVariants as binary
+use Rattle.strc_syntax.specs.declared.tree.StepOperator.TheVariants as step
+use Rattle.strc_semantics.specs.Filters.{Filter}
+use Rattle.strc_check.specs.declared.types.ValueType.{ValueType}
+use Rattle.strc_check.specs.declared.types.ValueType.TheVariants.{Int, Boolean, Array}
+use Rattle.strc_check.specs.Typing.{TypedNames}
+use Rattle.strc_check.specs.Resolution.{Context, body_context, init_context, rate_context}
+use Rattle.strc_work.specs.Expressions.{HasType}
+use Rattle.strc_work.specs.Numbers.{HasNumber}
+use Rattle.strc_work.specs.Statements.{IsWellFormed}
+use Rattle.strc_work.specs.Filters.{IsWellTyped}
+
+-- a number, a truth value, an array, a constant, and a name that nothing has
+abbrev pub x : List ℕ
+x = 120 ∷ []
+
+abbrev pub t : List ℕ
+t = 116 ∷ []
+
+abbrev pub a : List ℕ
+a = 97 ∷ []
+
+abbrev pub n : List ℕ
+n = 110 ∷ []
+
+abbrev pub z : List ℕ
+z = 122 ∷ []
+
+-- the constant is 3
+abbrev pub example_constants : List (List ℕ × ℤ)
+example_constants = record { 0 = n; 1 = pos 3 } ∷ []
+
+abbrev pub example_names : TypedNames
+example_names =
+    record { 0 = x; 1 = Int } ∷ record { 0 = t; 1 = Boolean } ∷ record { 0 = a; 1 = Array } ∷ []
+
+-- the body of a filter from numbers to numbers, and of one that neither takes nor gives items
+abbrev pub flowing : Context
+flowing = body_context example_constants item.Int item.Int
+
+abbrev pub closed : Context
+closed = body_context example_constants item.Void item.Void
+
+abbrev pub number : ℕ → tree.Expr
+number value = tree.Number (pos value)
+
+-- each of these expressions has this type
+abbrev pub HaveTypes : Context → List (tree.Expr × ValueType) → Type 0
+HaveTypes context [] = Unit {0}
+HaveTypes context (row ∷ rows) = HasType context example_names row.0 row.1 × HaveTypes context rows
+
+-- none of these expressions has a type
+abbrev pub HaveNoType : Context → List tree.Expr → Type 0
+HaveNoType context [] = Unit {0}
+HaveNoType context (value ∷ values) =
+    ((kind : ValueType) → ¬ HasType context example_names value kind) × HaveNoType context values
+
+-- 7, x, n, (t), a[0], pop(), peek(n), -x, ~x, !t, x + n, x << n, x < 1, x >= n, x == n, t == true,
+-- t || t, t && t, t ? x : 1, t ? t : t, x++, --a[x]
+abbrev pub typed : List (tree.Expr × ValueType)
+typed =
+    (number 7, Int) ∷ (tree.Read x, Int) ∷ (tree.Read n, Int)
+    ∷ (tree.Group (tree.Read t), Boolean) ∷ (tree.Element a (number 0), Int)
+    ∷ (tree.Pop, Int) ∷ (tree.Peek (tree.Read n), Int)
+    ∷ (tree.Unary unary.Negate (tree.Read x), Int)
+    ∷ (tree.Unary unary.Complement (tree.Read x), Int)
+    ∷ (tree.Unary unary.Not (tree.Read t), Boolean)
+    ∷ (tree.Binary binary.Add (tree.Read x) (tree.Read n), Int)
+    ∷ (tree.Binary binary.ShiftLeft (tree.Read x) (tree.Read n), Int)
+    ∷ (tree.Binary binary.Less (tree.Read x) (number 1), Boolean)
+    ∷ (tree.Binary binary.GreaterOrEqual (tree.Read x) (tree.Read n), Boolean)
+    ∷ (tree.Binary binary.Equal (tree.Read x) (tree.Read n), Boolean)
+    ∷ (tree.Binary binary.Equal (tree.Read t) (tree.Truth true), Boolean)
+    ∷ (tree.Binary binary.LogicalOr (tree.Read t) (tree.Read t), Boolean)
+    ∷ (tree.Binary binary.LogicalAnd (tree.Read t) (tree.Read t), Boolean)
+    ∷ (tree.Conditional (tree.Read t) (tree.Read x) (number 1), Int)
+    ∷ (tree.Conditional (tree.Read t) (tree.Read t) (tree.Read t), Boolean)
+    ∷ (tree.Step step.IncrementAfter x, Int)
+    ∷ (tree.StepElement step.DecrementFirst a (tree.Read x), Int) ∷ []
+
+-- z, a, x[0], a[true], peek(t), !x, t + 1, t < t, x == t, x || t, x ? 1 : 2, t ? x : t, ++t, ++n
+abbrev pub untyped : List tree.Expr
+untyped =
+    tree.Read z ∷ tree.Read a ∷ tree.Element x (number 0) ∷ tree.Element a (tree.Truth true)
+    ∷ tree.Peek (tree.Read t) ∷ tree.Unary unary.Not (tree.Read x)
+    ∷ tree.Binary binary.Add (tree.Read t) (number 1)
+    ∷ tree.Binary binary.Less (tree.Read t) (tree.Read t)
+    ∷ tree.Binary binary.Equal (tree.Read x) (tree.Read t)
+    ∷ tree.Binary binary.LogicalOr (tree.Read x) (tree.Read t)
+    ∷ tree.Conditional (tree.Read x) (number 1) (number 2)
+    ∷ tree.Conditional (tree.Read t) (tree.Read x) (tree.Read t)
+    ∷ tree.Step step.IncrementFirst t ∷ tree.Step step.IncrementFirst n ∷ []
+
+-- pop(), peek(0)
+abbrev pub item_readers : List tree.Expr
+item_readers = tree.Pop ∷ tree.Peek (number 0) ∷ []
+
+-- n; and x, a[0], x++
+abbrev pub constant_reads : List (tree.Expr × ValueType)
+constant_reads = (tree.Read n, Int) ∷ []
+
+abbrev pub variable_reads : List tree.Expr
+variable_reads =
+    tree.Read x ∷ tree.Element a (number 0) ∷ tree.Step step.IncrementAfter x ∷ []
+
+-- the rows on expressions; nothing is popped where no items come in, and no variable is seen where
+-- only constants are
+pub record ExpressionRows : Type 0 where
+  pub typed_rows : HaveTypes flowing typed
+  pub untyped_rows : HaveNoType flowing untyped
+  pub no_items : HaveNoType closed item_readers
+  pub constants_alone : HaveTypes (rate_context example_constants) constant_reads
+  pub no_variables : HaveNoType (rate_context example_constants) variable_reads
+
+-- 2 * n, 1 / 0, true ? n : 1 / 0
+abbrev pub doubled : tree.Expr
+doubled = tree.Binary binary.Multiply (number 2) (tree.Read n)
+
+abbrev pub by_zero : tree.Expr
+by_zero = tree.Binary binary.Divide (number 1) (number 0)
+
+abbrev pub lazy : tree.Expr
+lazy = tree.Conditional (tree.Truth true) (tree.Read n) by_zero
+
+-- a constant counts with its value, a fault gives no number, and only the chosen side counts; a
+-- variable has no number, and neither has a truth value
+pub record NumberRows : Type 0 where
+  pub is_doubled : HasNumber example_constants example_names doubled (pos 6)
+  pub no_fault : HasNumber example_constants example_names lazy (pos 3)
+  pub faults : (value : ℤ) → ¬ HasNumber example_constants example_names by_zero value
+  pub no_variable : (value : ℤ) → ¬ HasNumber example_constants example_names (tree.Read x) value
+  pub no_truth : (value : ℤ) → ¬ HasNumber example_constants example_names (tree.Truth true) value
+
+-- a variable in a declaration
+abbrev pub variable : List ℕ → Option tree.Expr → tree.Variable
+variable name initial = record { name = name; initial = initial }
+
+abbrev pub int : List ℕ → Option tree.Expr → tree.Stmt
+int name initial = tree.Declare tree.Int (variable name initial ∷ [])
+
+abbrev pub boolean : List ℕ → tree.Stmt
+boolean name = tree.Declare tree.Boolean (variable name None ∷ [])
+
+abbrev pub int_array : (length : tree.Expr) → tree.Stmt
+int_array length = tree.Declare (tree.Array length) (variable z None ∷ [])
+
+abbrev pub block : List tree.Stmt → tree.Stmt
+block statements = tree.Block (tree.row statements)
+
+-- each of these statements is well formed; none of them is
+abbrev pub AreAllWellFormed : Context → List tree.Stmt → Type 0
+AreAllWellFormed context [] = Unit {0}
+AreAllWellFormed context (first ∷ rest) =
+    IsWellFormed context example_names 0 first × AreAllWellFormed context rest
+
+abbrev pub AreIllFormed : Context → List tree.Stmt → Type 0
+AreIllFormed context [] = Unit {0}
+AreIllFormed context (first ∷ rest) =
+    (¬ IsWellFormed context example_names 0 first) × AreIllFormed context rest
+
+-- {int z; {int z;}}, {int x; x = n;}, int z = 1, y = z (with y for a), int z[n], int z[65536],
+-- {boolean n; if (n) ;}, if (t) x += 1, t = x < n, a[x] *= 2, while (t) pop(),
+-- for (int z = 0; z < n; z++) push(z), println(x)
+abbrev pub well_formed : List tree.Stmt
+well_formed =
+    block (int z None ∷ block (int z None ∷ []) ∷ [])
+    ∷ block (int x None ∷ tree.Assign x assign.Set (tree.Read n) ∷ [])
+    ∷ block (tree.Declare tree.Int (variable z (Some (number 1))
+    ∷ variable a (Some (tree.Read z)) ∷ []) ∷ [])
+    ∷ int_array (tree.Read n) ∷ int_array (number 65536)
+    ∷ block (boolean n ∷ tree.If (tree.Read n) tree.Empty ∷ [])
+    ∷ tree.If (tree.Read t) (tree.Assign x assign.Add (number 1))
+    ∷ tree.Assign t assign.Set (tree.Binary binary.Less (tree.Read x) (tree.Read n))
+    ∷ tree.AssignElement a (tree.Read x) assign.Multiply (number 2)
+    ∷ tree.While (tree.Read t) (tree.Evaluate tree.Pop)
+    ∷ tree.For (int z (Some (number 0)))
+    (Some (tree.Binary binary.Less (tree.Read z) (tree.Read n)))
+    (tree.Evaluate (tree.Step step.IncrementAfter z)) (tree.Push (tree.Read z))
+    ∷ tree.Println (tree.Read x) ∷ []
+
+-- {int z; int z;}, int z = z, int z = true, int z[0], int z[65537], int z[x], if (x) ;,
+-- while (1) ;, t += 1, x = t, a = x, n = 1, z = 1, {for (int z = 0; ; ) ; z = 1;}, push(t),
+-- print(a), {boolean n; x = n;}, {int n; int z[n];}, enqueue 1
+abbrev pub ill_formed : List tree.Stmt
+ill_formed =
+    block (int z None ∷ int z None ∷ [])
+    ∷ int z (Some (tree.Read z)) ∷ int z (Some (tree.Truth true))
+    ∷ int_array (number 0) ∷ int_array (number 65537) ∷ int_array (tree.Read x)
+    ∷ tree.If (tree.Read x) tree.Empty ∷ tree.While (number 1) tree.Empty
+    ∷ tree.Assign t assign.Add (number 1) ∷ tree.Assign x assign.Set (tree.Read t)
+    ∷ tree.Assign a assign.Set (tree.Read x) ∷ tree.Assign n assign.Set (number 1)
+    ∷ tree.Assign z assign.Set (number 1)
+    ∷ block (tree.For (int z (Some (number 0))) None tree.Empty tree.Empty
+    ∷ tree.Assign z assign.Set (number 1) ∷ [])
+    ∷ tree.Push (tree.Read t) ∷ tree.Print (tree.Read a)
+    ∷ block (boolean n ∷ tree.Assign x assign.Set (tree.Read n) ∷ [])
+    ∷ block (int n None ∷ int_array (tree.Read n) ∷ [])
+    ∷ tree.Compose (tree.Enqueue (number 1)) ∷ []
+
+-- push(1); and print(1), println(1), push(1)
+abbrev pub pushes : List tree.Stmt
+pushes = tree.Push (number 1) ∷ []
+
+abbrev pub writes : List tree.Stmt
+writes = tree.Print (number 1) ∷ tree.Println (number 1) ∷ tree.Push (number 1) ∷ []
+
+-- the rows on statements; nothing is pushed where no items go out, nor printed in `init`
+pub record StatementRows : Type 0 where
+  pub well_formed_rows : AreAllWellFormed flowing well_formed
+  pub ill_formed_rows : AreIllFormed flowing ill_formed
+  pub no_pushes : AreIllFormed closed pushes
+  pub no_words : AreIllFormed (init_context example_constants) writes
+
+-- a declared rate
+abbrev pub declared : RateKind → tree.Expr → tree.Rate
+declared kind value = record { kind = kind; rate = value }
+
+abbrev pub filter : (input output : ItemType) → List tree.Member → Filter
+filter input output members = record { input = input; output = output; members = members }
+
+-- a field, and a work that pushes its steps
+abbrev pub counter : tree.Member
+counter = tree.Fields tree.Int (variable x (Some (number 0)) ∷ [])
+
+abbrev pub counting : (pushed : tree.Expr) → tree.Member
+counting pushed = tree.Work (declared rate.Push pushed ∷ [])
+    (tree.row (tree.Push (tree.Step step.IncrementAfter x) ∷ []))
+
+-- a work that prints what it pops
+abbrev pub printing : (popped : tree.Expr) → tree.Member
+printing popped = tree.Work (declared rate.Pop popped ∷ [])
+    (tree.row (tree.Println tree.Pop ∷ []))
+
+abbrev pub AreAllWellTyped : List Filter → Type 0
+AreAllWellTyped [] = Unit {0}
+AreAllWellTyped (first ∷ rest) = IsWellTyped example_constants first × AreAllWellTyped rest
+
+abbrev pub AreIllTyped : List Filter → Type 0
+AreIllTyped [] = Unit {0}
+AreIllTyped (first ∷ rest) = (¬ IsWellTyped example_constants first) × AreIllTyped rest
+
+-- a counter, also with a constant as its rate, a field after its work, and an `init`; a printer,
+-- also with a prework, which looks further; a rate of 0 on a side without items
+abbrev pub well_typed : List Filter
+well_typed =
+    filter item.Void item.Int (counter ∷ counting (number 1) ∷ [])
+    ∷ filter item.Void item.Int (counting (tree.Read n) ∷ counter ∷ [])
+    ∷ filter item.Void item.Int (counter
+    ∷ tree.Init (tree.row (tree.Assign x assign.Set
+    (tree.Binary binary.Add (tree.Read x) (tree.Read n)) ∷ []))
+    ∷ counting (number 1) ∷ [])
+    ∷ filter item.Int item.Void (printing (number 1) ∷ [])
+    ∷ filter item.Int item.Void (tree.Prework (declared rate.Peek (number 2) ∷ [])
+    (tree.row (tree.Println (tree.Peek (number 1)) ∷ [])) ∷ printing (number 1) ∷ [])
+    ∷ filter item.Void item.Void
+    (tree.Work (declared rate.Peek (number 0) ∷ []) tree.Done ∷ []) ∷ []
+
+-- no work, two works, two preworks, two inits; two fields of one name, apart and together; an
+-- initialiser that pops; a pop where no items come in, and a pop, a peek and a push rate above 0
+-- where no items flow, one of them of a prework; a rate that is a field, pops, is a truth value, or
+-- faults
+abbrev pub ill_typed : List Filter
+ill_typed =
+    filter item.Void item.Int (counter ∷ [])
+    ∷ filter item.Void item.Int (counter ∷ counting (number 1) ∷ counting (number 1) ∷ [])
+    ∷ filter item.Void item.Void
+    (tree.Prework [] tree.Done ∷ tree.Prework [] tree.Done ∷ tree.Work [] tree.Done ∷ [])
+    ∷ filter item.Void item.Void
+    (tree.Init tree.Done ∷ tree.Init tree.Done ∷ tree.Work [] tree.Done ∷ [])
+    ∷ filter item.Void item.Int (counter ∷ counter ∷ counting (number 1) ∷ [])
+    ∷ filter item.Void item.Int (tree.Fields tree.Int (variable x None ∷ variable x None ∷ [])
+    ∷ counting (number 1) ∷ [])
+    ∷ filter item.Int item.Int
+    (tree.Fields tree.Int (variable z (Some tree.Pop) ∷ []) ∷ counter ∷ counting (number 1) ∷ [])
+    ∷ filter item.Void item.Void (printing (number 0) ∷ [])
+    ∷ filter item.Void item.Void
+    (tree.Work (declared rate.Pop (number 1) ∷ []) tree.Done ∷ [])
+    ∷ filter item.Void item.Int
+    (tree.Work (declared rate.Peek (number 1) ∷ []) tree.Done ∷ [])
+    ∷ filter item.Int item.Void
+    (tree.Prework (declared rate.Push (number 1) ∷ []) tree.Done ∷ printing (number 1) ∷ [])
+    ∷ filter item.Void item.Int (counter ∷ counting (tree.Read x) ∷ [])
+    ∷ filter item.Int item.Int (counter ∷ counting tree.Pop ∷ [])
+    ∷ filter item.Void item.Int (counter ∷ counting (tree.Truth true) ∷ [])
+    ∷ filter item.Void item.Int
+    (counter ∷ counting (tree.Binary binary.Divide (number 1) (number 0)) ∷ []) ∷ []
+
+pub record FilterRows : Type 0 where
+  pub well_typed_rows : AreAllWellTyped well_typed
+  pub ill_typed_rows : AreIllTyped ill_typed

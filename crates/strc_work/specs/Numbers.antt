@@ -1,0 +1,31 @@
+-- The number of a constant expression, by the meaning of expressions.
+use Rattle.std.specs.Prelude.{◌≡◌, ℕ, ℤ, List, [], ◌∷◌, Ok}
+use Rattle.strc_syntax.specs.Tree as tree
+use Rattle.strc_semantics.specs.Firing.{Port, Traffic, Variables, Store, value_of}
+use Rattle.strc_check.specs.declared.types.ValueType.TheVariants.{Int}
+use Rattle.strc_check.specs.Typing.{TypedNames}
+use Rattle.strc_check.specs.Resolution.{rate_context}
+use Rattle.strc_work.specs.Expressions.{HasType}
+
+-- each constant as a variable that holds its value
+abbrev pub constant_variables : List (List ℕ × ℤ) → Variables
+constant_variables [] = []
+constant_variables (first ∷ rest) =
+    record { 0 = first.0; 1 = first.1 ∷ [] } ∷ constant_variables rest
+
+-- a store whose variables are the constants
+abbrev pub constant_store : List (List ℕ × ℤ) → Traffic → Store
+constant_store constants traffic = record
+    { variables = constant_variables constants; traffic = traffic }
+
+-- where each constant has its value, the expression means this number: without fault, whatever
+-- items there are, and it changes nothing
+abbrev pub Means : List (List ℕ × ℤ) → tree.Expr → ℤ → Type 0
+Means constants value number = (port : Port) (traffic : Traffic)
+    → value_of port value (constant_store constants traffic)
+    ≡ Ok (number, constant_store constants traffic)
+
+-- a constant expression, as of a rate or of a length: an Int over constants alone, and its number
+abbrev pub HasNumber : List (List ℕ × ℤ) → TypedNames → tree.Expr → ℤ → Type 0
+HasNumber constants names value number =
+    HasType (rate_context constants) names value Int × Means constants value number

@@ -1,2 +1,0 @@
-pub mod Stateless
-pub mod Walk
