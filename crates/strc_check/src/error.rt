@@ -98,13 +98,6 @@ impl LowerError {
         }
     }
 
-    /// Which rule is broken.
-    pub fn kind(&self) -> &LowerErrorKind
-        ensures { result.now ≡ self.now }
-    {
-        &self.kind
-    }
-
     /// Which rule is broken, taken out of the error.
     pub fn into_kind(self) -> LowerErrorKind
         ensures { result ≡ self }

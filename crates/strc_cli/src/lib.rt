@@ -7,7 +7,7 @@
 // refusal that holds.
 // Stands on strc_command, whose commands it carries out, on strc_run, which compiles and runs a
 // text, on strc_stage, whose plans it answers with, on strc_input, which reads its input's numbers,
-// on strc_output, which writes what it answers, and on strc_output.
+// and on strc_output, which writes and draws what it answers.
 #![tactic(auto)]
 
 pub mod answer;

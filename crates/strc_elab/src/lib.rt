@@ -2,9 +2,9 @@
 // Gives the stream of instances that its main stream means. The theorem to rely on: `elaborate`
 // answers the stream that the definitions give, or the first rule that is broken; a stream that it
 // answers is closed, and its types fit.
-// Stands on strc_statements, which finds declarations, on strc_statements, whose steps a body's
-// statements are, on strc_statements, which deals weights, on strc_work, whose codes filters get,
-// on strc_stream and strc_graph, whose streams and splitters it makes, and on indexmap.
+// Stands on strc_statements, which finds declarations, deals weights and has the steps of a body's
+// statements, on strc_work, whose codes filters get, on strc_stream and strc_graph, whose streams
+// and splitters it makes, and on indexmap.
 #![tactic(auto)]
 
 mod assembly;

@@ -1,8 +1,8 @@
 // Takes a stream of instances.
 // Gives its flat graph: its nodes in preorder and the channels between their ports. The theorem to
 // rely on: `flatten`'s graph is the flat graph of the stream's tree, for which the run is proved.
-// Stands on strc_stream, whose laws say which channels those are, on strc_stream and
-// strc_graph, which give streams and graphs their meaning, and on strc_statements for its refusals.
+// Stands on strc_stream, whose laws say which channels those are, on strc_graph, which gives graphs
+// their meaning, and on strc_statements for its refusals.
 #![tactic(auto)]
 
 mod channels;

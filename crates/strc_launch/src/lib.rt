@@ -4,9 +4,9 @@
 // The theorem to rely on: `launch`, whose ring is the beginning of strc_staged's law, cut between
 // the groups that workers share.
 // Stands on strc_stages, whose stages and collector it makes, on strc_runner and strc_rings, whose
-// machine and circuit it parts, on strc_staged, by which start-up's state comes to the graph after
-// fission, on strc_stage, whose bounds it parts them at, on strc_stage, whose plan it launches, and
-// on strc_staged, whose definitions say what a ring begins with.
+// machine and circuit it parts, on strc_stage, whose plan it launches and whose bounds it parts it
+// at, and on strc_staged, by which start-up's state comes to the graph after fission, and whose
+// definitions say what a ring begins with.
 #![tactic(auto)]
 
 mod counting;

@@ -3,9 +3,10 @@
 // mark, and where it helps a hint.
 // The theorem to rely on: a message begins with its file, and with a place of the text where it is
 // about one.
-// Stands on strc_places, which finds the place, on strc_source, which builds messages, on
-// strc_source, which tells of the nodes of a stream, on strc_refusal and strc_refusal, whose
-// refusals and rounds it tells of, and on strc_check, whose rules are broken.
+// Stands on strc_places, which finds the place, on strc_source, which builds messages and tells of
+// the nodes of a stream, on strc_refusal, whose refusals and rounds it tells of, on
+// strc_statements, which says what can be the main stream, and on strc_check, whose rules are
+// broken.
 #![tactic(auto)]
 
 mod expected;

@@ -8,7 +8,7 @@ use std::alloc::Global;
 use strc_base::memory::NoMemory;
 use strc_base::place::Span;
 use strc_check::site::{Mismatch, Site};
-use strc_places::known::{Known, can_be_main};
+use strc_places::known::Known;
 use strc_places::origins::statement_of;
 use strc_refusal::refusal::Refusal;
 use strc_refusal::refused::Refused;
@@ -16,6 +16,7 @@ use strc_source::message::Message;
 use strc_source::place::place_of;
 use strc_source::preorder::Preorder;
 use strc_source::source::Source;
+use strc_statements::main_stream::can_be_main;
 
 /// The message, where the two parts are known.
 pub(crate) fn pair_message(known: Known<'_>, refused: &Refused) -> Result<Option<Vec<u8>>, NoMemory>

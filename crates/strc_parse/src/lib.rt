@@ -2,8 +2,8 @@
 // Gives its syntax tree, or the refusal of tokens that no program has.
 // The theorem to rely on: `parse` answers Ok exactly with the tree of height at most `HEIGHT_LIMIT`
 // that has this spelling. `laws`: a text spells one program.
-// Stands on strc_grammar, which reads what has no statement in it, on strc_grammar, whose rules it
-// follows, on strc_syntax, whose trees it makes, and on strc_lex, whose tokens it reads.
+// Stands on strc_grammar, whose rules it follows and which reads what has no statement in it, on
+// strc_syntax, whose trees it makes, and on strc_lex, whose tokens it reads.
 #![tactic(auto)]
 
 mod composition;

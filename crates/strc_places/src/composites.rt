@@ -1,6 +1,11 @@
 // What the statements of a text add, and where the parts of a composite stream are: its `split` and
 // its `join`.
 
+ghost use Rattle.std.specs.Prelude.{◌≡◌};
+ghost use Rattle.std.specs.Option.{option_map};
+ghost use Rattle.strc_syntax.specs.View.{block_view, stream_view};
+ghost use Rattle.strc_places.specs.Parts as spec;
+
 use crate::known::Known;
 use strc_base::place::Span;
 use strc_check::site::Part;
@@ -28,7 +33,10 @@ fn block_added<'a>(known: Known<'a>, place: Span) -> Option<&'a [Stmt]> {
 }
 
 /// The block of a declared composite stream.
-pub fn block_of(declaration: &Decl) -> Option<&[Stmt]> {
+pub fn block_of(declaration: &Decl) -> Option<&[Stmt]>
+    ensures { option_map (λ b. block_view b.now) result
+        ≡ spec.composite_block (stream_view declaration.now.stream) }
+{
     match &declaration.stream {
         StreamTree::Composite(composite) => Some(&composite.block),
         StreamTree::Filter(_) => None,

@@ -5,7 +5,8 @@ use strc_base::place::Span;
 use strc_graph::graph::Graph;
 use strc_source::preorder::Preorder;
 use strc_source::source::Source;
-use strc_syntax::tree::{Decl, ItemType, Program, StreamTree};
+use strc_statements::main_stream::can_be_main;
+use strc_syntax::tree::{Decl, Program};
 
 /// A program's text, and of its tree, the nodes of its main stream and its flat graph those that it
 /// has.
@@ -19,6 +20,8 @@ pub struct Known<'a> {
 }
 
 impl<'a> Known<'a> {
+    ghost use Rattle.std.specs.Prelude.{◌≡◌, IfSome};
+
     /// The declarations of the program; none where it has no tree.
     pub fn declarations(self) -> &'a [Decl] {
         match self.program {
@@ -33,7 +36,9 @@ impl<'a> Known<'a> {
     }
 
     /// The declaration of a name.
-    pub fn declaration_named(self, name: &[u8]) -> Option<&'a Decl> {
+    pub fn declaration_named(self, name: &[u8]) -> Option<&'a Decl>
+        ensures { IfSome result (λ found. found.now.name ≡ name.now) }
+    {
         self.declarations()
             .iter()
             .find(|declaration| declaration.name.as_bytes() == name)
@@ -46,17 +51,4 @@ impl<'a> Known<'a> {
             None => self.declarations().iter().find(|it| can_be_main(it)),
         }
     }
-}
-
-/// Whether a declaration can be the main stream: it is void->void and has no parameters.
-pub fn can_be_main(declaration: &Decl) -> bool {
-    let (input, output) = match &declaration.stream {
-        StreamTree::Filter(filter) => (filter.input, filter.output),
-        StreamTree::Composite(composite) => (composite.types.input, composite.types.output),
-    };
-    let is_plain = match &declaration.parameters {
-        Some(names) => names.is_empty(),
-        None => true,
-    };
-    is_plain && input == ItemType::Void && output == ItemType::Void
 }

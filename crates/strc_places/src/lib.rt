@@ -1,10 +1,11 @@
 // Takes why a text is refused, or how its run faulted, and what is known of it: stream and graph.
 // Gives the part of the text that it is about: a statement, a rate, a name, an operator.
-// The theorem to rely on: it is safe and total; which part it finds is tested by whole messages.
-// Stands on strc_source, which knows the text's tokens, on strc_source, which walks over streams,
-// on strc_refusal, whose refusals these are, on strc_stream, strc_graph and strc_code, whose
-// filters know their text, on strc_rate and strc_interval, which count and compute it, and on
-// strc_parse, which reads the text's own tree.
+// The theorem to rely on: `occurrences` and `occurrences_at_start` find as many places as there are
+// parts of a filter's text that can fault so; which part is marked is tested by whole messages.
+// Stands on strc_source, which knows the text's tokens and the stream's nodes, on strc_refusal,
+// whose refusals these are, on strc_statements, which says what can be the main stream, on
+// strc_stream, strc_graph and strc_code, whose filters know their text, on strc_rate and
+// strc_interval, which count and compute it, and on strc_parse, which reads the text's own tree.
 #![tactic(auto)]
 
 pub mod bodies;

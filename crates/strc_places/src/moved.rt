@@ -1,5 +1,8 @@
 // Which rate of a filter isn't the one that its statements come to, or isn't allowed.
 
+ghost use Rattle.std.specs.Prelude.{◌≡◌};
+ghost use Rattle.strc_places.specs.Keywords as keywords;
+
 use crate::bodies::BODIES;
 use std::alloc::Global;
 use strc_base::memory::NoMemory;
@@ -76,7 +79,9 @@ fn refused_rate(code: &Code) -> Option<Moved> {
 }
 
 /// How a rate's kind is written.
-pub fn rate_keyword(side: RateKind) -> Keyword {
+pub fn rate_keyword(side: RateKind) -> Keyword
+    ensures { result ≡ keywords.rate_keyword side }
+{
     match side {
         RateKind::Push => Keyword::Push,
         RateKind::Pop => Keyword::Pop,

@@ -1,5 +1,11 @@
 // The statements of a filter's body in which something occurs, in order of the text.
 
+ghost use Rattle.std.specs.Prelude.{◌≡◌, ◌+◌, IfOk, OnOk, length, map};
+ghost use Rattle.std.specs.Option.{option_map};
+ghost use Rattle.strc_syntax.specs.View.{expr_view, stmt_view, block_view, variable_view};
+ghost use Rattle.strc_syntax.specs.View.{member_view};
+ghost use Rattle.strc_places.specs.Occurrences as spec;
+
 use std::alloc::Global;
 use strc_base::memory::NoMemory;
 use strc_base::place::Span;
@@ -31,7 +37,10 @@ pub fn occurrences(
     alloc: Global,
     block: &[Stmt],
     sought: Sought,
-) -> Result<Vec<Option<Span>>, NoMemory> {
+) -> Result<Vec<Option<Span>>, NoMemory>
+    ensures { IfOk result (λ found. length found.items
+        ≡ spec.row_count sought (block_view block.now)) }
+{
     let mut walk = Walk {
         sought,
         found: Vec::new(alloc),
@@ -41,31 +50,46 @@ pub fn occurrences(
     Ok(found)
 }
 
-/// The same of what a filter starts with: the initialisers of its fields, and `init`.
+/// Of each occurrence in what a filter starts with, the initialisers of its fields and `init`, the
+/// statement that it is in.
 pub fn occurrences_at_start(
     alloc: Global,
     members: &[Member],
     sought: Sought,
-) -> Result<Vec<Option<Span>>, NoMemory> {
+) -> Result<Vec<Option<Span>>, NoMemory>
+    ensures { IfOk result (λ found. length found.items
+        ≡ spec.start_count sought (map member_view members.now)) }
+{
     let mut walk = Walk {
         sought,
         found: Vec::new(alloc),
     };
     for member in members {
-        match member {
-            Member::Fields(fields) => {
-                walk_variables(&fields.variables, Some(fields.place), &mut walk)?;
-            }
-            Member::Init(block) => walk_block(block, None, &mut walk)?,
-            Member::Prework(_, _) | Member::Work(_, _) => {}
-        }
+        walk_member(member, &mut walk)?;
     }
     let Walk { sought: _, found } = walk;
     Ok(found)
 }
 
+fn walk_member(member: &Member, walk: &mut Walk) -> Result<(), NoMemory>
+    ensures counts { OnOk result (length walk.new.found.items
+        ≡ length walk.old.found.items
+        + spec.member_count walk.old.sought (member_view member.now)) }
+    ensures sought { OnOk result (walk.new.sought ≡ walk.old.sought) }
+{
+    match member {
+        Member::Fields(fields) => walk_variables(&fields.variables, Some(fields.place), walk),
+        Member::Init(block) => walk_block(block, None, walk),
+        Member::Prework(_, _) | Member::Work(_, _) => Ok(()),
+    }
+}
+
 #[cycle(statement)]
-fn walk_block(block: &[Stmt], here: Option<Span>, walk: &mut Walk) -> Result<(), NoMemory> {
+fn walk_block(block: &[Stmt], here: Option<Span>, walk: &mut Walk) -> Result<(), NoMemory>
+    ensures counts { OnOk result (length walk.new.found.items
+        ≡ length walk.old.found.items + spec.row_count walk.old.sought (block_view block.now)) }
+    ensures sought { OnOk result (walk.new.sought ≡ walk.old.sought) }
+{
     for statement in block {
         walk_statement(statement, here, walk)?;
     }
@@ -73,7 +97,11 @@ fn walk_block(block: &[Stmt], here: Option<Span>, walk: &mut Walk) -> Result<(),
 }
 
 #[cycle(statement)]
-fn walk_statement(statement: &Stmt, here: Option<Span>, walk: &mut Walk) -> Result<(), NoMemory> {
+fn walk_statement(statement: &Stmt, here: Option<Span>, walk: &mut Walk) -> Result<(), NoMemory>
+    ensures counts { OnOk result (length walk.new.found.items
+        ≡ length walk.old.found.items + spec.stmt_count walk.old.sought (stmt_view statement.now)) }
+    ensures sought { OnOk result (walk.new.sought ≡ walk.old.sought) }
+{
     match statement {
         Stmt::Empty | Stmt::Compose(_) => Ok(()),
         Stmt::Block(body) => walk_block(body, here, walk),
@@ -120,14 +148,24 @@ fn walk_variables(
     variables: &[Variable],
     here: Option<Span>,
     walk: &mut Walk,
-) -> Result<(), NoMemory> {
+) -> Result<(), NoMemory>
+    ensures counts { OnOk result (length walk.new.found.items
+        ≡ length walk.old.found.items + spec.variables_count walk.old.sought
+        (map variable_view variables.now)) }
+    ensures sought { OnOk result (walk.new.sought ≡ walk.old.sought) }
+{
     for variable in variables {
         walk_option(&variable.initial, here, walk)?;
     }
     Ok(())
 }
 
-fn walk_option(value: &Option<Expr>, here: Option<Span>, walk: &mut Walk) -> Result<(), NoMemory> {
+fn walk_option(value: &Option<Expr>, here: Option<Span>, walk: &mut Walk) -> Result<(), NoMemory>
+    ensures counts { OnOk result (length walk.new.found.items
+        ≡ length walk.old.found.items + spec.option_count walk.old.sought
+        (option_map expr_view value.now)) }
+    ensures sought { OnOk result (walk.new.sought ≡ walk.old.sought) }
+{
     match value {
         Some(value) => walk_expression(value, here, walk),
         None => Ok(()),
@@ -135,7 +173,12 @@ fn walk_option(value: &Option<Expr>, here: Option<Span>, walk: &mut Walk) -> Res
 }
 
 #[cycle(expression)]
-fn walk_expression(value: &Expr, here: Option<Span>, walk: &mut Walk) -> Result<(), NoMemory> {
+fn walk_expression(value: &Expr, here: Option<Span>, walk: &mut Walk) -> Result<(), NoMemory>
+    ensures counts { OnOk result (length walk.new.found.items
+        ≡ length walk.old.found.items + spec.expression_count walk.old.sought
+        (expr_view value.now)) }
+    ensures sought { OnOk result (walk.new.sought ≡ walk.old.sought) }
+{
     match value {
         Expr::Number(_) | Expr::Truth(_) | Expr::Read(_) | Expr::Pop | Expr::Step(_, _) => Ok(()),
         Expr::Group(inner) | Expr::Unary(_, inner) => walk_expression(inner, here, walk),
@@ -164,7 +207,9 @@ fn walk_expression(value: &Expr, here: Option<Span>, walk: &mut Walk) -> Result<
 }
 
 /// What can have a fault of this cause.
-pub fn sought_for(cause: Cause) -> Sought {
+pub fn sought_for(cause: Cause) -> Sought
+    ensures { result ≡ spec.sought_for cause }
+{
     match cause {
         Cause::DivZero => Sought::Division,
         Cause::Index => Sought::Element,
@@ -189,7 +234,11 @@ pub fn single(places: &[Option<Span>]) -> Option<Span> {
 
 impl Walk {
     /// Something occurs in a statement.
-    fn meet(&mut self, occurs: Sought, here: Option<Span>) -> Result<(), NoMemory> {
+    fn meet(&mut self, occurs: Sought, here: Option<Span>) -> Result<(), NoMemory>
+        ensures counts { OnOk result (length self.new.found.items
+            ≡ length self.old.found.items + spec.one self.old.sought occurs) }
+        ensures sought { OnOk result (self.new.sought ≡ self.old.sought) }
+    {
         if self.sought == occurs {
             self.found.push(here)?;
         }
@@ -202,7 +251,12 @@ impl Walk {
         operator: AssignOperator,
         value: &Expr,
         here: Option<Span>,
-    ) -> Result<(), NoMemory> {
+    ) -> Result<(), NoMemory>
+        ensures counts { OnOk result (length self.new.found.items
+            ≡ length self.old.found.items + spec.division self.old.sought
+            (spec.assigns_quotient operator) (expr_view value.now)) }
+        ensures sought { OnOk result (self.new.sought ≡ self.old.sought) }
+    {
         match operator {
             AssignOperator::Divide | AssignOperator::Remainder if can_be_zero(value) => {
                 self.meet(Sought::Division, here)
@@ -212,14 +266,18 @@ impl Walk {
     }
 }
 
-fn divides(operator: BinaryOperator) -> bool {
+fn divides(operator: BinaryOperator) -> bool
+    ensures { result ≡ spec.divides operator }
+{
     match operator {
         BinaryOperator::Divide | BinaryOperator::Remainder => true,
         _ => false,
     }
 }
 
-fn can_be_zero(value: &Expr) -> bool {
+fn can_be_zero(value: &Expr) -> bool
+    ensures { result ≡ spec.can_be_zero (expr_view value.now) }
+{
     match constant(value) {
         Some(number) => number == 0,
         None => true,

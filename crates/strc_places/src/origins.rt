@@ -1,5 +1,9 @@
 // Where the nodes and the channels of a program come from.
 
+ghost use Rattle.std.specs.Prelude.{◌≡◌};
+ghost use Rattle.std.specs.Option.{option_map};
+ghost use Rattle.strc_places.specs.Parts as spec;
+
 use crate::composites::part_statement;
 use crate::known::Known;
 use strc_base::place::Span;
@@ -49,7 +53,9 @@ pub fn place_of_channel(known: Known<'_>, channel: usize) -> Option<Span> {
 }
 
 /// The nodes at the two ends of a channel.
-pub fn ends_of(known: Known<'_>, channel: usize) -> Option<(usize, usize)> {
+pub fn ends_of(known: Known<'_>, channel: usize) -> Option<(usize, usize)>
+    ensures { result ≡ spec.ends_of (option_map (λ g. g.now) known.entry.graph) channel }
+{
     let found = known.graph?.channels().get(channel)?;
     Some((found.source.node as usize, found.target.node as usize))
 }

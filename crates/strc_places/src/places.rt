@@ -1,5 +1,8 @@
 // Which part of a text a refusal is about.
 
+ghost use Rattle.std.specs.Prelude.{◌≡◌};
+ghost use Rattle.strc_places.specs.Keywords as keywords;
+
 use crate::bodies::{peek_outside, uncounted_statement};
 use crate::depth::deepest_token;
 use crate::known::Known;
@@ -179,7 +182,9 @@ fn kind_in(known: Known<'_>, place: Span, kind: CompositeKind) -> Span {
 }
 
 /// How a kind of composite stream is written.
-pub fn kind_keyword(kind: CompositeKind) -> Keyword {
+pub fn kind_keyword(kind: CompositeKind) -> Keyword
+    ensures { result ≡ keywords.kind_keyword kind }
+{
     match kind {
         CompositeKind::Pipeline => Keyword::Pipeline,
         CompositeKind::Splitjoin => Keyword::Splitjoin,
@@ -188,7 +193,9 @@ pub fn kind_keyword(kind: CompositeKind) -> Keyword {
 }
 
 /// How a part of a composite stream is written.
-pub fn part_keyword(part: Part) -> Keyword {
+pub fn part_keyword(part: Part) -> Keyword
+    ensures { result ≡ keywords.part_keyword part }
+{
     match part {
         Part::Add => Keyword::Add,
         Part::Body => Keyword::Body,

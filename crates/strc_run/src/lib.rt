@@ -5,8 +5,8 @@
 // rounds is the answer of its stream's equations (`laws::plans_answer_texts`).
 // Stands on strc_lex, strc_parse, strc_elab, strc_flatten, strc_rate, strc_balance, strc_startup,
 // strc_schedule, strc_fiss and strc_fuse, whose rules a text keeps, on strc_refusal, whose refusals
-// it gives and passes on, on strc_stage, whose plans it gives, and on strc_sched and strc_parallel,
-// which run schedules and stages, with outcomes of strc_refusal.
+// and outcomes it gives and passes on, on strc_stage, whose plans it gives, and on strc_sched and
+// strc_parallel, which run schedules and stages.
 #![tactic(auto)]
 
 pub mod compile;

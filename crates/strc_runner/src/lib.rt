@@ -2,10 +2,9 @@
 // Gives a machine that fires the graph's nodes, or those of a part of it, over rings.
 // The theorem to rely on: `fire_order` does what the definition of an order's run says, firing by
 // firing, and each change of a machine by its owner is just what is said of it.
-// Stands on strc_admissible, whose definitions say what a run over rings is, on strc_rings, which
-// moves items over them, on strc_rings, whose circuits it runs and passes on, on strc_schedule,
-// whose units it fires, on strc_work, whose codes it fires, and on strc_filter, which does many
-// firings of a filter at once.
+// Stands on strc_admissible, whose definitions say what a run over rings is, on strc_rings, whose
+// circuits it runs and which moves items over rings, on strc_schedule, whose units it fires, on
+// strc_work, whose codes it fires, and on strc_filter, which does many firings of a filter at once.
 #![tactic(auto)]
 
 mod access;

@@ -59,7 +59,7 @@ fn is_plain(declaration: &Decl) -> bool
 }
 
 /// Whether a declaration can be the main stream: it takes and gives nothing, and has no parameters.
-fn can_be_main(declaration: &Decl) -> bool
+pub fn can_be_main(declaration: &Decl) -> bool
     ensures { result ≡ spec.can_be_main (declaration_view declaration.now) }
 {
     let closed = StreamType {

@@ -1,0 +1,3 @@
+pub mod Keywords
+pub mod Occurrences
+pub mod Parts
