@@ -10,11 +10,11 @@ use std::thread::{Builder, Threads};
 use std::{env, thread};
 use strc_cli::device::Told;
 use strc_cli::execute::{CliError, Status};
+use strc_cli::line::{Command, Line, LineFault};
 use strc_cli::program_text::{TextFault, read_text};
-use strc_command::line::{Command, Line, LineFault};
-use strc_command::words::{VERSION, asks_for_help, asks_for_version, command, usage_error};
-use strc_explain::explain::{Explained, execute_explained};
-use strc_explain::stages::times_message;
+use strc_cli::words::{VERSION, asks_for_help, asks_for_version, command, usage_error};
+use strc_messages::explained::{Explained, execute_explained};
+use strc_messages::times::times_message;
 use strc_ring::{Gate, OpenGate, StageTimes};
 use strc_stages::Stage;
 

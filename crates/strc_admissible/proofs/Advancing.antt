@@ -32,13 +32,13 @@ use Rattle.strc_admissible.proofs.Simulation.{ring_holds}
 
 -- what has been put is there, and what was elsewhere still is
 
-put_here : {A : Type 0} (now : ℕ → A) (node : ℕ) (run : A) (other : ℕ) → other ≡ node
+pub put_here : {A : Type 0} (now : ℕ → A) (node : ℕ) (run : A) (other : ℕ) → other ≡ node
     → put now node run other ≡ run
 unfolding put
 put_here now node run other same =
     ap (λ (test : Bool). cond test run (now other)) (eq-eqb other node same)
 
-put_other : {A : Type 0} (now : ℕ → A) (node : ℕ) (run : A) (other : ℕ) → (other ≡ node → ⊥)
+pub put_other : {A : Type 0} (now : ℕ → A) (node : ℕ) (run : A) (other : ℕ) → (other ≡ node → ⊥)
     → put now node run other ≡ now other
 unfolding put
 put_other now node run other differs =

@@ -1,16 +1,16 @@
 -- The firings of a filter without state, and those of an identity.
 use Rattle.std.proofs.Common.{◌≡◌, refl, sym, ◌∙◌, ap, subst, ℕ, zero, suc, ℤ, true, false, List}
-use Rattle.std.proofs.Common.{[], ◌∷◌, length, Option, Some, None, Result, Ok, Err}
+use Rattle.std.proofs.Common.{[], length, Option, Some, None, Result, Ok, Err}
 use Rattle.std.specs.Prelude.{is_some, unwrap_or, IfOk}
 use Rattle.strc_base.specs.Results.{result_and_then}
 use Rattle.strc_syntax.specs.Tree as tree
-use Rattle.strc_dataflow.specs.Node.{ByPort, Fired.Fires, Fired.Faults, at_port_0}
+use Rattle.strc_dataflow.specs.Node.{Fired.Fires, Fired.Faults, at_port_0}
 use Rattle.strc_dataflow.specs.Node as generic
 use Rattle.strc_semantics.specs.declared.fault.Cause.{Cause}
 use Rattle.strc_semantics.specs.declared.word.Word.{Word}
 use Rattle.strc_semantics.specs.declared.body.Body.TheVariants as body
 use Rattle.strc_semantics.specs.Filters.{Filter, sized_fields, work_block, prework_block}
-use Rattle.strc_semantics.specs.Filters.{prework_rates, work_rates, body_block, body_rates}
+use Rattle.strc_semantics.specs.Filters.{work_rates, body_block, body_rates}
 use Rattle.strc_semantics.specs.Filters.{push_rate, pop_rate, item_count, window_size}
 use Rattle.strc_semantics.specs.Scoping.{total}
 use Rattle.strc_semantics.specs.Firing.{Fired, fired, started, stmts_done, store_at, block_left}
@@ -22,6 +22,7 @@ use Rattle.strc_graph.specs.Graphs.{ports_of}
 use Rattle.strc_graph.specs.Rates.{body_at}
 use Rattle.strc_graph.specs.Meaning.{first_fields, as_fired}
 use Rattle.strc_graph.proofs.Quiet.{firing_quiet}
+use Rattle.strc_graph.proofs.Works.{no_rates}
 use Rattle.strc_interval.specs.Stateless.{is_stateless}
 use Rattle.strc_rate.proofs.Kept.{keeps_fields, no_prework, no_print}
 use Rattle.strc_rate.proofs.Started.{fields_fit}
@@ -52,14 +53,6 @@ stays_by start push (Ok done) h = (
 stays_by start push (Err cause) h = tt
 
 -- ---- each firing of a filter without a prework is one of the work
-
-no_rates : (members : List tree.Member) → is_some (prework_block members) ≡ false
-    → prework_rates members ≡ None
-no_rates [] none = refl
-no_rates (tree.Fields kind variables ∷ rest) none = no_rates rest none
-no_rates (tree.Init block ∷ rest) none = no_rates rest none
-no_rates (tree.Prework rates block ∷ rest) none = absurd (cc)
-no_rates (tree.Work rates block ∷ rest) none = no_rates rest none
 
 no_block : (block : Option tree.Stmts) → is_some block ≡ false → block ≡ None
 no_block None none = refl

@@ -9,7 +9,7 @@ use Rattle.strc_graph.specs.Graphs.{NodeCode, Graph}
 use Rattle.strc_graph.specs.FlatGraphs.{IsFlat}
 use Rattle.strc_graph.specs.Meaning.{node_meaning}
 use Rattle.strc_graph.proofs.Firings.{PushesAtRates, node_keeps_rates, takes_within}
-use Rattle.strc_graph.proofs.Quiet.{then_ok}
+use Rattle.strc_base.proofs.Results.{then_ok}
 use Rattle.strc_rate.specs.Kept as kept
 use Rattle.strc_rate.proofs.KeptRates.{rates_kept}
 use Rattle.strc_schedule.specs.Schedules.{ScheduleParts}

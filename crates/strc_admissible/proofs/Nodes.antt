@@ -3,11 +3,11 @@ use Rattle.std.proofs.Common.{◌≡◌, refl, ap, ◌∙◌, subst, ℕ, zero, 
 use Rattle.std.proofs.Common.{true, false, ℤ, List, [], length, take, drop, sum, Result, Ok}
 use Rattle.std.proofs.Common.{Err, arith, length-take, length-drop, length-append, lt-ltb, ltb-true}
 use Rattle.std.proofs.Common.{mul-le-mul_right}
-use Rattle.std.specs.Prelude.{if◌then◌else◌, slice_index, slice_index_or, IfOk, nat_lt}
+use Rattle.std.specs.Prelude.{if◌then◌else◌, slice_index_or, IfOk, nat_lt}
 use Rattle.strc_dataflow.specs.Node.{ByPort, Fired.Fires, Fired.Faults, at_port_0}
 use Rattle.strc_dataflow.specs.Node as generic
-use Rattle.strc_dataflow.specs.RoundRobin.{span_start, one_cycle}
-use Rattle.strc_dataflow.proofs.RoundRobin.{cycle_length, span_within}
+use Rattle.strc_dataflow.specs.RoundRobin.{one_cycle}
+use Rattle.strc_dataflow.proofs.RoundRobin.{cycle_length}
 use Rattle.strc_semantics.specs.declared.fault.Cause.{Cause}
 use Rattle.strc_semantics.specs.declared.word.Word.{Word}
 use Rattle.strc_semantics.specs.Firing.{Fired, fired}
@@ -18,6 +18,7 @@ use Rattle.strc_graph.specs.Rates.{filter_pushes}
 use Rattle.strc_graph.specs.Meaning.{node_meaning, node_fired, ports_in, as_fired}
 use Rattle.strc_graph.specs.Meaning.{gathered}
 use Rattle.strc_graph.specs.declared.graph.Fission.{Fission}
+use Rattle.strc_graph.proofs.Firings.{span_length}
 use Rattle.strc_dataflow.specs.Rates.{PushesRates}
 use Rattle.strc_admissible.specs.Nodes.{NodesPushRates}
 
@@ -58,17 +59,6 @@ one_or_none : (carries : Bool) (items : List ℤ) → length items ≡ 1
     → length (if carries then items else []) ≡ (if carries then 1 else 0)
 one_or_none true items e = e
 one_or_none false items e = refl
-
-span_length : (weights : List ℕ) (items : List ℤ) → length items ≡ sum weights → (port : ℕ)
-    → length (take (slice_index weights port) (drop (span_start weights port) items))
-    ≡ slice_index weights port
-span_length weights items e port =
-    let within = span_within weights port in
-    omega (
-      arith,
-      length-take (slice_index weights port) (drop (span_start weights port) items),
-      length-drop (span_start weights port) items,
-    )
 
 -- ---- scatter and gather
 

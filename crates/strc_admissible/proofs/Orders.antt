@@ -21,7 +21,7 @@ use Rattle.strc_admissible.proofs.Windows.{is_ready}
 
 -- counts in both layers
 
-raised_is : (counts : Firings) (node : ℕ) → orders.raised counts node ≡ fired counts 1 node
+pub raised_is : (counts : Firings) (node : ℕ) → orders.raised counts node ≡ fired counts 1 node
 unfolding orders.raised
 raised_is counts node = fun_ext (λ other. by_test (counts other) (eqb other node))
   where

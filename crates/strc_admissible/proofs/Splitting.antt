@@ -10,7 +10,7 @@ use Rattle.strc_graph.specs.Meaning.{node_meaning}
 use Rattle.strc_admissible.specs.Fits.{Queues, FitNow, FitThen, Fit}
 
 module _ (graph : flat.Graph NodeCode) where
-  abbrev go : List ℕ → Queues → FifoProgress (List ℤ) Cause Word
+  abbrev pub go : List ℕ → Queues → FifoProgress (List ℤ) Cause Word
   go = fifo_go node_meaning graph
 
   then_then : (a b : List ℕ) (progress : FifoProgress (List ℤ) Cause Word)
@@ -21,7 +21,7 @@ module _ (graph : flat.Graph NodeCode) where
   then_then a b (FifoStopped stop) ih = refl
 
   -- an order, and after it another one
-  go_append : (a b : List ℕ) (now : Queues) → go (a ++ b) now ≡ fifo_then (go b) (go a now)
+  pub go_append : (a b : List ℕ) (now : Queues) → go (a ++ b) now ≡ fifo_then (go b) (go a now)
   unfolding fifo_go fifo_then
   go_append [] b now = refl
   go_append (node ∷ a) b now =

@@ -160,7 +160,7 @@ node_step (graphs.Copy copied fission) number fields inputs outputs input rings 
 node_step (graphs.Gather fission) number fields inputs outputs input rings =
     gather_step fission inputs (at_port outputs 0) rings
 
--- the same where there may be no such node
+-- a firing of a node that may not be there: then it finds no windows
 abbrev pub maybe_step : Option NodeCode → (firing : ℕ) → (fields : List ℤ)
     → (inputs outputs : List (Option ℕ)) → (input : List ℤ) → List Ring → Step
 maybe_step None number fields inputs outputs input rings = Stays

@@ -33,7 +33,7 @@ path_back {equations} (Against equation is from rest) =
     path_join (path_back rest) (Along equation is refl
     (subst (λ n. Path equations equation.target n) from Here))
 
--- the same with rates of 1
+-- connections by equations with rates of 1
 
 unit-at : (equations : List Equation) (k : ℕ) (d : Equation) → k < length equations
     → get_or (all_unit_rates equations) k d ≡ unit_rates (get_or equations k d)

@@ -145,7 +145,7 @@ pub record IsLowest (fraction : Fraction) : Type 0 where
   pub bottom : 0 < fraction.bottom
   pub coprime : IsCoprime fraction.top fraction.bottom
 
-quotient_positive : (a g : ℕ) → 0 < a → g ∣ a → 0 < a / g
+pub quotient_positive : (a g : ℕ) → 0 < a → g ∣ a → 0 < a / g
 quotient_positive a g h d = pos_of_ne-zero
     (λ z. let e : g * (a / g) ≡ a = mul-div_cancel' g d in let zero_product : g * (a / g) ≡ 0 =
     ap (λ n. g * n) z ∙ omega arith in omega arith)

@@ -11,7 +11,7 @@ use Rattle.strc_graph.specs.Graphs.{outputs_at, input_ports, output_ports}
 use Rattle.strc_balance.specs.Balance.{HasRates}
 use Rattle.strc_balance.specs.Rates.{IsRated, equation_of, equations_of, size_of}
 
-source_within : (nodes : List NodeCode) (node port : ℕ) → port < outputs_at nodes node
+pub source_within : (nodes : List NodeCode) (node port : ℕ) → port < outputs_at nodes node
     → node < length nodes
 source_within nodes node port h =
     elim (cases_lt node (length nodes)) [
@@ -21,7 +21,7 @@ source_within nodes node port h =
           absurd (omega arith)
     ]
 
-target_within : (nodes : List NodeCode) (node port : ℕ) → port < inputs_at nodes node
+pub target_within : (nodes : List NodeCode) (node port : ℕ) → port < inputs_at nodes node
     → node < length nodes
 target_within nodes node port h =
     elim (cases_lt node (length nodes)) [

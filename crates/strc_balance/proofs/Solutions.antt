@@ -21,7 +21,7 @@ use Rattle.strc_balance.specs.Balance.{fraction_passes, is_too_large, is_balance
 use Rattle.strc_balance.specs.Balance.{HasRates, AreConnected}
 use Rattle.strc_balance.proofs.Divisors.{IsLowest, lowest_terms-is, lowest_terms-same, lowest_top}
 use Rattle.strc_balance.proofs.Divisors.{lowest_bottom, multiple-left, multiple-right}
-use Rattle.strc_balance.proofs.Divisors.{multiple-least, multiple_positive}
+use Rattle.strc_balance.proofs.Divisors.{multiple-least, multiple_positive, quotient_positive}
 use Rattle.strc_balance.proofs.Spreading.{Known, Carries, propagated-known, start-known}
 use Rattle.strc_balance.proofs.Spreading.{spread-length, spread-known}
 
@@ -229,12 +229,6 @@ counts-least size equations rates other balances node =
     ]
 
 -- each node's count is above 0
-
-quotient_positive : (scale bottom : ℕ) → 0 < scale → bottom ∣ scale → 0 < scale / bottom
-quotient_positive scale bottom positive divides =
-    pos_of_ne-zero (λ z. let whole : bottom * (scale / bottom) ≡ scale =
-    mul-div_cancel' bottom divides in let e : bottom * (scale / bottom) ≡ 0 =
-    ap (λ n. bottom * n) z ∙ omega arith in omega arith)
 
 counts-positive : (size : ℕ) (equations : List Equation) → All (HasRates size) equations
     → AreConnected size equations → (node : ℕ) → node < size

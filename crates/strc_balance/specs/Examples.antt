@@ -24,7 +24,7 @@ filter pushes pops =
           tree.Work (declared rate.Push pushes ∷ declared rate.Pop pops ∷ []) tree.Done ∷ [];
     })
 
--- the same with a prework that pushes and pops other numbers of items
+-- a filter with a prework that pushes and pops other numbers of items than its work
 abbrev pub with_prework : (first_pushes first_pops pushes pops : ℕ) → NodeCode
 with_prework first_pushes first_pops pushes pops =
     let first = declared rate.Push first_pushes ∷ declared rate.Pop first_pops ∷ [] in

@@ -15,8 +15,8 @@ use crate::solution::solve;
 use std::alloc::Global;
 use strc_graph::graph::Graph;
 
-/// The least counts at which the nodes of a graph fire in one round, so that each channel ends with
-/// as many items as it began with.
+/// The repetition vector of a graph: the least counts at which its nodes fire in one round, so that
+/// each channel ends with as many items as it began with.
 ///
 /// They are the least positive solution of the balance equations of Lee and Messerschmitt (Static
 /// Scheduling of Synchronous Data Flow Programs, 1987) for the rates of each filter's `work`: for

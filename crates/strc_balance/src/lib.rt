@@ -1,5 +1,5 @@
 // Takes a flat graph.
-// Gives the least counts at which its nodes fire in one round.
+// Gives its repetition vector: the least counts at which its nodes fire in one round.
 // The theorem to rely on: the counts are the least positive solution of the balance equations (Lee
 // and Messerschmitt 1987), and a refusal says that none exists within the limit, or none at all.
 // Stands on strc_graph, whose graph it takes and whose rates by port it balances, on strc_base, and

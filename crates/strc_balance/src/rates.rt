@@ -9,7 +9,7 @@ ghost use Rattle.strc_balance.specs.Frontiers.{IsBounded};
 use crate::equation::Equation;
 use std::alloc::{AllocError, Global};
 use strc_graph::graph::{Channel, Node};
-use strc_graph::rates::{pops_at, pushes_at};
+use strc_graph::rates::{fires_by_rounds, pops_at, pushes_at};
 
 /// The balance equation of each channel.
 pub(crate) fn equations_of(
@@ -66,19 +66,4 @@ fn pushes_by_work(node: &Node, port: usize) -> u128
         return 0;
     }
     pushes_at(node, 1, port)
-}
-
-/// Whether a node has no rates by `work`.
-fn fires_by_rounds(node: &Node) -> bool
-    ensures { result ≡ spec.fires_by_rounds (node_view node.now) }
-{
-    match node {
-        Node::Scatter(_) | Node::Copy(_, _) | Node::Gather(_) => true,
-        Node::Filter(_)
-        | Node::Identity
-        | Node::FileReader(_)
-        | Node::FileWriter(_)
-        | Node::Splitter(_)
-        | Node::Joiner(_) => false,
-    }
 }

@@ -3,3 +3,4 @@ pub mod Tables
 pub mod Scopes
 pub mod Numbered
 pub mod ScopeMaps
+pub mod Results

@@ -24,6 +24,6 @@ pub record KeepsSlots (seen : List Declared) (table : List ℕ → Option ℕ) :
   pub shadowed : KeepShadowed seen
   pub innermost : (name : List ℕ) → table name ≡ number_named (names_in seen) name
 
--- the same, as one fact to those who only use a scope
+-- what is true of a scope, as one fact to those who only use it
 unfoldable pub IsScope : List Declared → (List ℕ → Option ℕ) → Type 0
 IsScope seen table = KeepsSlots seen table

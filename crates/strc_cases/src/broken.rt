@@ -9,7 +9,7 @@ use std::sync::Wait;
 use std::thread::Threads;
 use strc_cli::device::{Sink, Source, Told};
 use strc_cli::execute::{CliError, execute};
-use strc_command::line::Command;
+use strc_cli::line::Command;
 use strc_ring::OpenGate;
 
 // The status of a text that is refused.

@@ -10,7 +10,7 @@
 // Gives a line for each case that differs, and at the end how many do; and the same of the places
 // at which cases were broken, and of devices that fail or take little at a time.
 // There is no theorem here; the values are those of the language's rules.
-// Stands on strc_cli, whose `command` it calls, and on strc_explain, whose `execute_explained`.
+// Stands on strc_cli, whose `command` it calls, and on strc_messages, whose `execute_explained`.
 #![tactic(auto)]
 
 mod broken;
@@ -24,9 +24,9 @@ use std::sync::Wait;
 use std::thread::{Builder, Threads};
 use std::{fs, io, thread};
 use strc_cli::device::Told;
-use strc_command::line::{Command, LineFault};
-use strc_command::words::command;
-use strc_explain::explain::execute_explained;
+use strc_cli::line::{Command, LineFault};
+use strc_cli::words::command;
+use strc_messages::explained::execute_explained;
 use strc_ring::{OpenGate, StageTimes};
 
 // The status of a command line that isn't understood, as of the program's.
@@ -344,7 +344,7 @@ fn part(rt: &HostRuntime, name: &str, ending: &str) -> io::Result<Vec<u8>> {
     fs::read(rt, path.as_str())
 }
 
-/// The same, and no bytes where there is no such file.
+/// The bytes of the case's file with this ending, and none where there is no such file.
 fn part_if_there(rt: &HostRuntime, name: &str, ending: &str) -> io::Result<Vec<u8>> {
     match part(rt, name, ending) {
         Err(error) if error.kind() == ErrorKind::NotFound => Ok(Vec::new(rt.alloc())),

@@ -15,10 +15,10 @@ use Rattle.strc_cli.specs.declared.answer.Answer.{Answer}
 use Rattle.strc_cli.specs.declared.answer.Answer.TheVariants as answer
 use Rattle.strc_output.specs.declared.stop.Stop.{Stop}
 use Rattle.strc_output.specs.declared.stop.Stop.TheVariants as stop
-use Rattle.strc_command.specs.declared.line.Command.TheVariants as command
-use Rattle.strc_input.specs.declared.input.ReadStop.{ReadStop}
-use Rattle.strc_input.specs.declared.input.ReadStop.TheVariants as read
-use Rattle.strc_input.specs.Input.{WritesNumbers}
+use Rattle.strc_cli.specs.declared.line.Command.TheVariants as command
+use Rattle.strc_cli.specs.declared.input.ReadStop.{ReadStop}
+use Rattle.strc_cli.specs.declared.input.ReadStop.TheVariants as read
+use Rattle.strc_cli.specs.ReadInput.{WritesNumbers}
 use Rattle.strc_cli.specs.Answering.{chosen, HasSize, IsAnswered, IsInput, ReadsText}
 use Rattle.strc_cli.specs.Input.{IsInputOf, IsRunAnswer, unread}
 

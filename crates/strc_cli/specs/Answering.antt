@@ -3,7 +3,7 @@ use Rattle.std.specs.Prelude.{◌≡◌, ℕ, ℤ, Bool, true, false, List, [], 
 use Rattle.std.specs.Prelude.{Err, String, string_bytes, None, unwrap_or}
 use Rattle.std.specs.declared.alloc.Global.{Global}
 use Rattle.std.specs.Option.{option_map}
-use Rattle.strc_input.specs.Input.{WritesNumbers}
+use Rattle.strc_cli.specs.ReadInput.{WritesNumbers}
 use Rattle.strc_refusal.specs.declared.outcome.Outcome.{Outcome}
 use Rattle.strc_refusal.specs.declared.run_refusal.RunRefusal.{RunRefusal}
 use Rattle.strc_refusal.specs.declared.run_refusal.RunRefusal.TheVariants.{BadWorkers}
@@ -27,8 +27,8 @@ use Rattle.strc_cli.specs.declared.answer.Answer.{Answer}
 use Rattle.strc_cli.specs.declared.answer.Answer.TheVariants as answer
 use Rattle.strc_output.specs.declared.stop.Stop.{Stop}
 use Rattle.strc_output.specs.declared.stop.Stop.TheVariants as stop
-use Rattle.strc_command.specs.declared.line.Command.{Command}
-use Rattle.strc_command.specs.declared.line.Command.TheVariants as command
+use Rattle.strc_cli.specs.declared.line.Command.{Command}
+use Rattle.strc_cli.specs.declared.line.Command.TheVariants as command
 
 -- a text is compiled for the main stream of this name, where there is one, with so many copies of a
 -- node, and so many entries in the list of a fused unit

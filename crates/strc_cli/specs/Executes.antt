@@ -9,7 +9,7 @@ use Rattle.strc_cli.specs.declared.answer.Answer.{Answer}
 use Rattle.strc_cli.specs.declared.answer.Answer.TheVariants as answer
 use Rattle.strc_output.specs.declared.stop.Stop.{Stop}
 use Rattle.strc_output.specs.declared.stop.Stop.TheVariants as stop
-use Rattle.strc_command.specs.declared.line.Command.{Command}
+use Rattle.strc_cli.specs.declared.line.Command.{Command}
 use Rattle.strc_refusal.specs.declared.outcome.Outcome.TheVariants as outcome
 use Rattle.strc_refusal.specs.declared.run_refusal.RunRefusal.{RunRefusal}
 use Rattle.strc_refusal.specs.declared.run_refusal.RunRefusal.TheVariants as unrun

@@ -2,9 +2,9 @@
 use Rattle.std.specs.Prelude.{◌≡◌, ℕ, ℤ, Bool, true, false, List, [], Option, Result, Ok}
 use Rattle.std.specs.Prelude.{Err, Vec}
 use Rattle.std.specs.declared.alloc.Global.{Global}
-use Rattle.strc_input.specs.declared.input.ReadStop.{ReadStop}
-use Rattle.strc_input.specs.declared.input.ReadStop.TheVariants as stop
-use Rattle.strc_input.specs.Input.{ReadsNumbers}
+use Rattle.strc_cli.specs.declared.input.ReadStop.{ReadStop}
+use Rattle.strc_cli.specs.declared.input.ReadStop.TheVariants as stop
+use Rattle.strc_cli.specs.ReadInput.{ReadsNumbers}
 use Rattle.strc_stage.specs.Plans.{PlanParts}
 use Rattle.strc_run.specs.Rounds.{IsRunOf}
 use Rattle.strc_cli.specs.declared.execute.CliError.{CliError}

@@ -4,3 +4,8 @@ pub mod Executes
 pub mod Input
 pub mod Statuses
 pub use Rattle.strc_output.specs.Output
+pub mod Lines
+pub mod Numbers
+pub mod Reading
+pub mod ReadAnswers
+pub mod ReadInput

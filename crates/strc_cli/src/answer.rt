@@ -8,15 +8,15 @@ ghost use Rattle.strc_cli.specs.Answering.{AnswersPlan, IsAnswered, ReadsInput, 
 ghost use Rattle.strc_cli.specs.Input as spec;
 ghost use Rattle.strc_cli.specs.Input.{IsInputOf, IsRunAnswer};
 
+use crate::device::Source;
 use crate::drawing::{drawn, stages_drawn};
 use crate::execute::CliError;
+use crate::input::{ReadStop, read_numbers};
+use crate::line::Command;
+use crate::words::{BARE_FUSE, BARE_WAYS, BARE_WORKERS};
 use std::alloc::{AllocError, Global};
 use std::sync::Wait;
 use std::thread::Threads;
-use strc_command::line::Command;
-use strc_command::words::{BARE_FUSE, BARE_WAYS, BARE_WORKERS};
-use strc_input::device::Source;
-use strc_input::input::{ReadStop, read_numbers};
 use strc_output::stop::Stop;
 use strc_refusal::refused::Refused;
 use strc_ring::Gate;

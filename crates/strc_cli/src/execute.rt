@@ -7,11 +7,11 @@ ghost use Rattle.strc_cli.specs.Executes as spec;
 ghost use Rattle.strc_cli.specs.Executes.{Executes, TellsAnswer, Writes, device_of};
 
 use crate::answer::{Answer, answer_to};
+use crate::device::{Sink, Source};
+use crate::line::Command;
 use std::alloc::{AllocError, Global};
 use std::sync::Wait;
 use std::thread::Threads;
-use strc_command::line::Command;
-use strc_input::device::{Sink, Source};
 use strc_output::outcome::outcome_text;
 use strc_output::output::{check_text, plan_text, stop_text};
 use strc_output::stop::Stop;

@@ -1,19 +1,24 @@
-// Takes a command, a program's text and its input.
-// Gives the printed numbers, or one named fault and the numbers before its round; or how large the
-// program's graph is, or how often its nodes fire and how large its buffers are; or one named
-// refusal.
-// The theorem to rely on: `execute` reports exactly the answer of a text and a command: an outcome
+// Takes the words of the command line, a program's text and its input.
+// Gives the command that the words ask for, or why they are none; the printed numbers, or one named
+// fault and the numbers before its round; or how large the program's graph is, or how often its
+// nodes fire and how large its buffers are; or one named refusal.
+// The theorems to rely on: `execute` reports exactly the answer of a text and a command: an outcome
 // of its rounds that is the answer of its stream's equations, the size of its graph, its plan, or a
-// refusal that holds.
-// Stands on strc_command, whose commands it carries out, on strc_run, which compiles and runs a
-// text, on strc_stage, whose plans it answers with, on strc_input, which reads its input's numbers,
-// and on strc_output, which writes and draws what it answers.
+// refusal that holds. `command` answers a line exactly where clap, given the description of our
+// commands, takes the words, and then the line that they ask for; `read_numbers`: numbers that are
+// read piece by piece are those of the whole input.
+// Stands on clap, which parses the words, on strc_run, which compiles and runs a text, on
+// strc_stage, whose plans it answers with, and on strc_output, which writes and draws what it
+// answers.
 #![tactic(auto)]
 
 pub mod answer;
+pub mod device;
 mod drawing;
 pub mod execute;
+pub mod input;
+pub mod input_laws;
+pub mod line;
+pub mod numbers;
 pub mod program_text;
-
-pub use strc_command::{line, words};
-pub use strc_input::device;
+pub mod words;

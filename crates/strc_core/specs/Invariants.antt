@@ -33,7 +33,8 @@ pub record AreHandedOn {State Load Stop Total : Type 0} (work : Work State Load 
 unfoldable pub after : ℕ → ℕ → ℕ
 after stages actor = cond (eqb actor stages) 0 (suc actor)
 
--- The same from single steps, with a test of stages that their steps keep.
+-- What is handed on from actor to actor, shown by single steps, with a test of stages that their
+-- steps keep.
 pub record IsHandedOnByStep {State Load Stop Total : Type 0} (work : Work State Load Stop Total)
     (start : Start State Load Stop Total) (passes : ℕ → Plain Load Stop → Bool)
     (stays : ℕ → Stage State Stop → Bool) : Type 0 where

@@ -1,7 +1,7 @@
 -- An order that is valid in one round is valid in every later round, where rates repeat and the
 -- channels balance.
 use Rattle.std.proofs.Common.{◌≡◌, refl, sym, ap, ◌∙◌, subst, ℕ, zero, suc, ◌+◌, ◌*◌, ◌<◌, ◌≤◌}
-use Rattle.std.proofs.Common.{Bool, true, false, cond, eqb, List, [], ◌∷◌, length, ℤ, arith}
+use Rattle.std.proofs.Common.{List, [], ◌∷◌, length, ℤ, arith}
 use Rattle.std.proofs.Common.{mul-le-mul_right}
 use mathlib.Core.Path.{fun_ext}
 use Rattle.strc_dataflow.specs.Node.{Meaning, total}
@@ -10,7 +10,7 @@ use Rattle.strc_dataflow.specs.Order.{raised, counted, firing_count, counts_afte
 use Rattle.strc_dataflow.specs.Order.{supply}
 use Rattle.strc_dataflow.specs.Order.{IsOrder}
 use Rattle.strc_dataflow.specs.Rounds.{RepeatsRates, gives_in_round, IsBalanced, IsSupplied}
-use Rattle.strc_dataflow.proofs.Invariant.{counted_grows, raised_here}
+use Rattle.strc_dataflow.proofs.Invariant.{counted_grows, raised_here, later, raised_later}
 use Rattle.strc_dataflow.proofs.WholeRun.{counted-firing_count}
 
 -- The total of a rate that repeats.
@@ -30,21 +30,6 @@ total_repeats rate port from repeats n h (suc more) =
       total_repeats rate port from repeats n h more,
       repeats (n + more) (omega arith),
     ) in f)
-
--- One round later.
-abbrev later : (ℕ → ℕ) → (ℕ → ℕ) → ℕ → ℕ
-later counts round node = counts node + round node
-
-raised_later_by : (counts round : ℕ → ℕ) (v : ℕ) (test : Bool)
-    → cond test (suc (counts v + round v)) (counts v + round v)
-    ≡ cond test (suc (counts v)) (counts v) + round v
-raised_later_by counts round v true = omega arith
-raised_later_by counts round v false = refl
-
-raised_later : (counts round : ℕ → ℕ) (node : ℕ)
-    → raised (later counts round) node ≡ later (raised counts node) round
-unfolding raised
-raised_later counts round node = fun_ext (λ v. raised_later_by counts round v (eqb v node))
 
 module _ {Code State Cause Word : Type 0} (meaning : Meaning Code State Cause Word)
     (graph : Graph Code) (input : List ℤ) (from round last : ℕ → ℕ)

@@ -1,8 +1,8 @@
 -- As long as no firing faults, the machine's state is a solution of the equations at its own
 -- counts; so each queue's length is known by counts.
 use Rattle.std.proofs.Common.{◌≡◌, refl, sym, ap, ◌∙◌, subst, ℕ, zero, suc, ◌+◌, ◌-◌, ◌<◌, ◌≤◌}
-use Rattle.std.proofs.Common.{Bool, true, false, cond, eqb, List, [], ◌∷◌, ◌++◌, length, Option}
-use Rattle.std.proofs.Common.{Some, None, ℤ, arith, append_assoc, length-append, length-drop}
+use Rattle.std.proofs.Common.{Bool, true, false, cond, eqb, List, [], ◌∷◌, length, Option}
+use Rattle.std.proofs.Common.{Some, None, ℤ, arith, length-append, length-drop}
 use Rattle.std.proofs.Common.{eqb-true}
 use mathlib.Core.Path.{fun_ext}
 use Rattle.strc_dataflow.specs.Node.{ByPort, Meaning, total}
@@ -17,10 +17,11 @@ use Rattle.strc_dataflow.specs.Machine.{unless_faulted, fired_once, go}
 use Rattle.strc_dataflow.specs.Queues.{Fifo, FifoProgress, FifoProgress.FifoWent}
 use Rattle.strc_dataflow.specs.Queues.{FifoProgress.FifoStopped, fifo_go, IsQueued, IsAlike}
 use Rattle.strc_dataflow.specs.Queues.{fifo_at_first, TakesWithinWindow}
-use Rattle.strc_dataflow.proofs.Runs.{Begins, begins_itself, finds_from, advance_longer}
+use Rattle.strc_dataflow.proofs.Runs.{Begins, finds_from, advance_longer}
 use Rattle.strc_dataflow.proofs.Runs.{advance_counts, pushes_if}
 use Rattle.strc_dataflow.proofs.Rates.{fired_at_most, fired_by}
 use Rattle.strc_dataflow.proofs.Queued.{machines_alike, queued_at_first}
+use Rattle.strc_dataflow.proofs.Invariant.{come_grows}
 
 module _ {Code State Cause Word : Type 0} (meaning : Meaning Code State Cause Word) (code : Code)
   where
@@ -97,30 +98,6 @@ module _ {Code State Cause Word : Type 0} (meaning : Meaning Code State Cause Wo
           (ap (λ (r : Run State Cause Word). r.fault) (sym (own.own node)) ∙ own.faultless node)
           port
 
-  put_begins : (now : ℕ → Run State Cause Word) (node : ℕ) (run : Run State Cause Word)
-      → ((port : ℕ) → Begins ((now node).pushes port) (run.pushes port)) → (source : Source)
-      → Begins (arrived input now source) (arrived input (put now node run) source)
-  unfolding arrived items_of put
-  put_begins now node run b source =
-      let c = by_origin source.origin in
-      record {
-        rest = c.rest;
-        whole = ap (λ (l : List ℤ). source.enqueued ++ l) c.whole
-            ∙ sym (append_assoc source.enqueued (items_of input now source.origin) c.rest);
-      }
-    where
-      by_test : (u q : ℕ) (test : Bool) → eqb u node ≡ test
-          → Begins ((now u).pushes q) ((cond test run (now u)).pushes q)
-      by_test u q true e = subst (λ (v : ℕ). Begins ((now v).pushes q) (run.pushes q))
-          (sym (eqb-true u node e)) (b q)
-      by_test u q false e = begins_itself ((now u).pushes q)
-
-      by_origin : (origin : Origin) → Begins (items_of input now origin)
-          (items_of input (put now node run) origin)
-      by_origin Nowhere = begins_itself []
-      by_origin Input = begins_itself input
-      by_origin (Port u q) = by_test u q (eqb u node) refl
-
   own_found : (counts : ℕ → ℕ) (now : ℕ → Run State Cause Word) → IsOwn counts now → (node : ℕ)
       → IsReady meaning graph input counts node
       → finds meaning (graph.code node) (now node).fired (come now node) ≡ true
@@ -155,7 +132,7 @@ module _ {Code State Cause Word : Type 0} (meaning : Meaning Code State Cause Wo
           ∙ ap suc (own.fired node)
 
       longer : (u port : ℕ) → Begins (come now u port) (come (put now node run) u port)
-      longer u port = put_begins now node run
+      longer u port = come_grows input now node run
           (λ q. pushes_if meaning (graph.code node) (come now node) (now node) (now node).fault
           (finds meaning (graph.code node) (now node).fired (come now node)) q)
           (graph.source u port)

@@ -39,6 +39,47 @@ unfolding raised
 raised_here counts node = ap (λ (t : Bool). cond t (suc (counts node)) (counts node))
     (eq-eqb node node refl)
 
+-- One round later.
+abbrev pub later : (ℕ → ℕ) → (ℕ → ℕ) → ℕ → ℕ
+later counts round node = counts node + round node
+
+raised_later_by : (counts round : ℕ → ℕ) (v : ℕ) (test : Bool)
+    → cond test (suc (counts v + round v)) (counts v + round v)
+    ≡ cond test (suc (counts v)) (counts v) + round v
+raised_later_by counts round v true = omega arith
+raised_later_by counts round v false = refl
+
+pub raised_later : (counts round : ℕ → ℕ) (node : ℕ)
+    → raised (later counts round) node ≡ later (raised counts node) round
+unfolding raised
+raised_later counts round node = fun_ext (λ v. raised_later_by counts round v (eqb v node))
+
+-- More comes to a port where a node pushes more.
+pub come_grows : {State Cause Word : Type 0} (input : List ℤ) (now : ℕ → Run State Cause Word)
+    (node : ℕ) (run : Run State Cause Word)
+    → ((port : ℕ) → Begins ((now node).pushes port) (run.pushes port)) → (source : Source)
+    → Begins (arrived input now source) (arrived input (put now node run) source)
+unfolding arrived items_of put
+come_grows input now node run b source =
+    let c = by_origin source.origin in
+    record {
+      rest = c.rest;
+      whole = ap (λ (l : List ℤ). source.enqueued ++ l) c.whole
+          ∙ sym (append_assoc source.enqueued (items_of input now source.origin) c.rest);
+    }
+  where
+    by_test : (u q : ℕ) (test : Bool) → eqb u node ≡ test
+        → Begins ((now u).pushes q) ((cond test run (now u)).pushes q)
+    by_test u q true e = subst (λ (v : ℕ). Begins ((now v).pushes q) (run.pushes q))
+        (sym (eqb-true u node e)) (b q)
+    by_test u q false e = begins_itself ((now u).pushes q)
+
+    by_origin : (origin : Origin) → Begins (items_of input now origin)
+        (items_of input (put now node run) origin)
+    by_origin Nowhere = begins_itself []
+    by_origin Input = begins_itself input
+    by_origin (Port u q) = by_test u q (eqb u node) refl
+
 module _ {Code State Cause Word : Type 0} (meaning : Meaning Code State Cause Word)
     (graph : Graph Code) (input : List ℤ) where
   -- Each node has done its number of firings, and none faulted.

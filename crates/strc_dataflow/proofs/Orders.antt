@@ -198,7 +198,7 @@ module _ {Code State Cause Word : Type 0} (meaning : Meaning Code State Cause Wo
       by_origin (Port u q) = total_grows (meaning.pushed (graph.code u)) (counts u) q (eqb u node)
 
   module _ (takes_within : TakesWithinWindow meaning graph) where
-    covered_next : (counts : ℕ → ℕ) (node : ℕ) → IsCovered counts
+    pub covered_next : (counts : ℕ → ℕ) (node : ℕ) → IsCovered counts
         → IsReady meaning graph input counts node → IsCovered (raised counts node)
     unfolding raised total
     covered_next counts node covered ready v port less =

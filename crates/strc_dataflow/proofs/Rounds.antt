@@ -1,13 +1,13 @@
 -- An order that is valid in one round is valid in every later one, where rates repeat by rounds.
 use Rattle.std.proofs.Common.{◌≡◌, refl, sym, ap, ◌∙◌, subst, ℕ, zero, suc, ◌+◌, ◌-◌, ◌*◌, ◌<◌, ◌≤◌}
-use Rattle.std.proofs.Common.{Bool, true, false, cond, eqb, List, [], ◌∷◌, length, ℤ, arith}
+use Rattle.std.proofs.Common.{List, [], ◌∷◌, length, ℤ, arith}
 use Rattle.std.proofs.Common.{mul-le-mul_right}
 use mathlib.Core.Path.{fun_ext}
 use Rattle.strc_dataflow.specs.Node.{Meaning, total}
 use Rattle.strc_dataflow.specs.Flat.{Origin, Origin.Nowhere, Origin.Input, Origin.Port, Graph}
 use Rattle.strc_dataflow.specs.Order.{raised, counted, firing_count, counts_after, supply_of}
 use Rattle.strc_dataflow.specs.Order.{supply, IsOrder, IsSchedule}
-use Rattle.strc_dataflow.proofs.Invariant.{counted_grows, raised_here}
+use Rattle.strc_dataflow.proofs.Invariant.{counted_grows, raised_here, later, raised_later}
 use Rattle.strc_dataflow.proofs.WholeRun.{counted-firing_count}
 use Rattle.strc_dataflow.specs.RestartRounds.{total_from, IsOutside, RepeatsByRounds}
 use Rattle.strc_dataflow.specs.RestartRounds.{IsBalancedByRounds}
@@ -61,21 +61,6 @@ total_repeats rate port from round repeats n after =
     subst (λ (m : ℕ). total rate (m + round) port
     ≡ total rate m port + total_from rate from round port) e
     (total_later rate port from round repeats (n - from))
-
--- One round later.
-abbrev later : (ℕ → ℕ) → (ℕ → ℕ) → ℕ → ℕ
-later counts round node = counts node + round node
-
-raised_later_by : (counts round : ℕ → ℕ) (v : ℕ) (test : Bool)
-    → cond test (suc (counts v + round v)) (counts v + round v)
-    ≡ cond test (suc (counts v)) (counts v) + round v
-raised_later_by counts round v true = omega arith
-raised_later_by counts round v false = refl
-
-raised_later : (counts round : ℕ → ℕ) (node : ℕ)
-    → raised (later counts round) node ≡ later (raised counts node) round
-unfolding raised
-raised_later counts round node = fun_ext (λ v. raised_later_by counts round v (eqb v node))
 
 module _ {Code State Cause Word : Type 0} (meaning : Meaning Code State Cause Word)
     (graph : Graph Code) (input : List ℤ) (from round last : ℕ → ℕ)

@@ -1,19 +1,18 @@
 -- A solution of the equations: nodes that can fire do, one after another, until none can.
 use Rattle.std.proofs.Common.{◌≡◌, refl, sym, ap, ◌∙◌, subst, ℕ, zero, suc, ◌+◌, ◌-◌, ◌*◌, ◌<◌, ◌≤◌}
-use Rattle.std.proofs.Common.{Bool, true, false, cond, eqb, List, [], ◌∷◌, ◌++◌, ℤ, arith}
-use Rattle.std.proofs.Common.{append_assoc, eqb-true}
+use Rattle.std.proofs.Common.{Bool, true, false, cond, eqb, List, [], ◌∷◌, ℤ, arith}
+use Rattle.std.proofs.Common.{eqb-true}
 use mathlib.Core.Path.{fun_ext}
 use mathlib.Core.Logic.{inl, inr, ◌⊎◌}
 use Rattle.std.proofs.lemmas.Bool.{cases_lt, ne_eqb}
 use Rattle.strc_dataflow.specs.Node.{ByPort, Meaning}
 use Rattle.strc_dataflow.specs.Histories.{Run, finds, advance, runs}
-use Rattle.strc_dataflow.specs.Flat.{Origin, Origin.Nowhere, Origin.Input, Origin.Port, Source}
-use Rattle.strc_dataflow.specs.Flat.{Graph, items_of, arrived, runs_at, Solves}
+use Rattle.strc_dataflow.specs.Flat.{Graph, arrived, runs_at, Solves}
 use Rattle.strc_dataflow.specs.Order.{raised, firing_count, counts_after}
 use Rattle.strc_dataflow.specs.Machine.{put, at_first, fired_once}
 use Rattle.strc_dataflow.proofs.Runs.{Begins, begins_itself, begins_then, advance_longer, pushes_if}
 use Rattle.strc_dataflow.proofs.Runs.{later_runs, not_found}
-use Rattle.strc_dataflow.proofs.Invariant.{raised_here}
+use Rattle.strc_dataflow.proofs.Invariant.{raised_here, come_grows}
 use Rattle.strc_dataflow.specs.Solutions.{EquationsHaveSolutions, RoundsHaveSolutions}
 
 -- A run that doesn't find its windows stays as it is.
@@ -41,31 +40,6 @@ module _ {Code State Cause Word : Type 0} (meaning : Meaning Code State Cause Wo
     (graph : Graph Code) (input : List ℤ) where
   abbrev come : (ℕ → Run State Cause Word) → ℕ → ByPort
   come now node port = arrived input now (graph.source node port)
-
-  -- More comes where a node pushes more.
-  come_grows : (now : ℕ → Run State Cause Word) (node : ℕ) (run : Run State Cause Word)
-      → ((port : ℕ) → Begins ((now node).pushes port) (run.pushes port)) → (source : Source)
-      → Begins (arrived input now source) (arrived input (put now node run) source)
-  unfolding arrived items_of put
-  come_grows now node run b source =
-      let c = by_origin source.origin in
-      record {
-        rest = c.rest;
-        whole = ap (λ (l : List ℤ). source.enqueued ++ l) c.whole
-            ∙ sym (append_assoc source.enqueued (items_of input now source.origin) c.rest);
-      }
-    where
-      by_test : (u q : ℕ) (test : Bool) → eqb u node ≡ test
-          → Begins ((now u).pushes q) ((cond test run (now u)).pushes q)
-      by_test u q true e = subst (λ (v : ℕ). Begins ((now v).pushes q) (run.pushes q))
-          (sym (eqb-true u node e)) (b q)
-      by_test u q false e = begins_itself ((now u).pushes q)
-
-      by_origin : (origin : Origin) → Begins (items_of input now origin)
-          (items_of input (put now node run) origin)
-      by_origin Nowhere = begins_itself []
-      by_origin Input = begins_itself input
-      by_origin (Port u q) = by_test u q (eqb u node) refl
 
   module _ (counts : ℕ → ℕ) where
     -- Each node has done some of its firings over what has come to it, as it would over more.
@@ -98,7 +72,7 @@ module _ {Code State Cause Word : Type 0} (meaning : Meaning Code State Cause Wo
         after = put now node run
 
         longer : (u port : ℕ) → Begins (come now u port) (come after u port)
-        longer u port = come_grows now node run
+        longer u port = come_grows input now node run
             (λ q. pushes_if meaning (graph.code node) (come now node) (now node) (now node).fault
             (finds meaning (graph.code node) (now node).fired (come now node)) q)
             (graph.source u port)

@@ -74,7 +74,7 @@ OrdersAgree Code State Cause Word =
     → verdict (whole_run meaning (flat stream) input round_order startup_order k)
     ≡ verdict (whole_run meaning (flat stream) input other_round other_startup k)
 
--- The same of any graph and any solutions of its equations: the run is the answer that they give,
+-- Of any graph and any solutions of its equations the run is the answer that they give,
 -- and no other outcome is.
 abbrev pub AnySolution : (Code State Cause Word : Type 0) → Type 0
 AnySolution Code State Cause Word =

@@ -31,7 +31,7 @@ pub loop_is : LoopRow
 unfolding level_limit filter_limit turn_limit int_wrap
 loop_is = refl
 
--- a turn is too many, or the next ones make too many
+-- an iteration is too many, or the next ones make too many
 turn_by_value : (within : Bool) (progress : Progress) (next : Progress → Result Progress ElabError)
     → ((turning : Progress) → next turning ≡ Err (ConstFault Turns))
     → result_and_then
@@ -46,7 +46,7 @@ turn_by_value : (within : Bool) (progress : Progress) (next : Progress → Resul
 turn_by_value true progress next fails = fails _
 turn_by_value false progress next fails = refl
 
--- a loop whose condition always holds, and which does nothing, makes too many turns
+-- a loop whose condition always holds, and which does nothing, makes too many iterations
 turns_run_out : (fuel : ℕ) (setting : Setting) (names : TypedNames) (progress : Progress)
     → looped fuel (condition_evaluated setting names (Some (tree.Truth true)))
     (inside (stmt_run setting names (length names) tree.Empty)) progress ≡ Err (ConstFault Turns)

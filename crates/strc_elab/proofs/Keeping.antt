@@ -1,6 +1,7 @@
 -- What a body's stream statements keep, and each change of its variables, its run keeps.
 use Rattle.std.proofs.Common.{ℕ, zero, suc, ℤ, length, Option, Some, None, Result, Ok, IfOk, cond}
 use Rattle.strc_base.specs.Results.{result_and_then}
+use Rattle.strc_base.proofs.Results.{then_ok}
 use Rattle.strc_syntax.specs.Tree as tree
 use Rattle.strc_semantics.specs.Firing.{Store, turn_limit, block_left}
 use Rattle.strc_semantics.specs.Firing as firing
@@ -11,7 +12,7 @@ use Rattle.strc_statements.specs.declared.error.ElabError.{ElabError}
 use Rattle.strc_statements.specs.Statements.{computed, eval_checked, simple_done, declaration_done}
 use Rattle.strc_elab.specs.Elaboration.{Setting, Progress, on_store, condition_evaluated, inside}
 use Rattle.strc_elab.specs.Elaboration.{turned, looped, composed, stmt_run, stmts_run}
-use Rattle.strc_elab.proofs.Steps.{then_holds, any_holds, either_holds}
+use Rattle.strc_elab.proofs.Steps.{any_holds, either_holds}
 
 pub record Keeps (setting : Setting) (P : Progress → Type 0) : Type 0 where
   pub stored : (progress : Progress) (store : Store) → P progress
@@ -23,7 +24,7 @@ stored_kept : (setting : Setting) (P : Progress → Type 0) → Keeps setting P
     → (does : Store → Result Store ElabError) (progress : Progress) → P progress
     → IfOk (on_store does progress) P
 stored_kept setting P keeps does progress kept =
-    then_holds (does progress.store) (λ store. Ok (record progress { store = store }))
+    then_ok (does progress.store) (λ store. Ok (record progress { store = store }))
     (λ store. Unit {0}) P (any_holds (does progress.store))
     (λ store h. keeps.stored progress store kept)
 
@@ -33,7 +34,7 @@ tested_kept : (setting : Setting) (P : Progress → Type 0) → Keeps setting P
     → IfOk (condition_evaluated setting names condition progress) (λ tested. P tested.1)
 tested_kept setting P keeps names None progress kept = kept
 tested_kept setting P keeps names (Some condition) progress kept =
-    then_holds (given_here setting names condition progress)
+    then_ok (given_here setting names condition progress)
     (λ test. Ok (test.0, record progress { store = test.1 })) (λ test. Unit {0})
     (λ tested. P tested.1) (any_holds (given_here setting names condition progress))
     (λ test h. keeps.stored progress test.1 kept)
@@ -46,14 +47,14 @@ inside_kept : (setting : Setting) (P : Progress → Type 0) → Keeps setting P
     → (runs : Progress → Result Progress ElabError) (progress : Progress)
     → IfOk (runs progress) P → IfOk (inside runs progress) P
 inside_kept setting P keeps runs progress h =
-    then_holds (runs progress) (λ inner. Ok
+    then_ok (runs progress) (λ inner. Ok
     (record inner { store = block_left progress.store inner.store })) P P h
     (λ inner kept. keeps.stored inner (block_left progress.store inner.store) kept)
 
 turned_kept : (setting : Setting) (P : Progress → Type 0) → Keeps setting P
     → (progress : Progress) → P progress → IfOk (turned progress) P
 turned_kept setting P keeps progress kept =
-    then_holds (computed (firing.turned progress.store))
+    then_ok (computed (firing.turned progress.store))
     (λ store. Ok (record progress { store = store })) (λ store. Unit {0}) P
     (any_holds (computed (firing.turned progress.store)))
     (λ store h. keeps.stored progress store kept)
@@ -66,15 +67,15 @@ looped_kept : (setting : Setting) (P : Progress → Type 0) → Keeps setting P
     → P progress → IfOk (looped fuel test body progress) P
 looped_kept setting P keeps zero test body tests runs progress kept = tt
 looped_kept setting P keeps (suc fuel) test body tests runs progress kept =
-    then_holds (test progress) (λ tested. cond (is_true tested.0)
+    then_ok (test progress) (λ tested. cond (is_true tested.0)
     (result_and_then (turned tested.1)
     (λ turning. result_and_then (body turning) (looped fuel test body))) (Ok tested.1))
     (λ tested. P tested.1) P (tests progress kept) (λ tested h.
     either_holds (is_true tested.0) (result_and_then (turned tested.1)
     (λ turning. result_and_then (body turning) (looped fuel test body))) (Ok tested.1) P
-    (then_holds (turned tested.1) (λ turning. result_and_then (body turning)
+    (then_ok (turned tested.1) (λ turning. result_and_then (body turning)
     (looped fuel test body)) P P (turned_kept setting P keeps tested.1 h) (λ turning g.
-    then_holds (body turning) (looped fuel test body) P P (runs turning g)
+    then_ok (body turning) (looped fuel test body) P P (runs turning g)
     (λ after k. looped_kept setting P keeps fuel test body tests runs after k)))
     h)
 
@@ -101,7 +102,7 @@ mutual
       = stored_kept setting P keeps (simple_done setting.place names outer
       (tree.AssignElement name index operator value)) progress kept
   stmt_kept setting P keeps names outer (tree.If condition chosen) progress kept =
-      then_holds (condition_evaluated setting names (Some condition) progress)
+      then_ok (condition_evaluated setting names (Some condition) progress)
       (λ test. cond (is_true test.0) (inside
       (stmt_run setting names (length names) chosen) test.1) (Ok test.1))
       (λ tested. P tested.1) P
@@ -111,7 +112,7 @@ mutual
       (inside_kept setting P keeps (stmt_run setting names (length names) chosen) test.1
       (stmt_kept setting P keeps names (length names) chosen test.1 h)) h)
   stmt_kept setting P keeps names outer (tree.IfElse condition chosen other) progress kept =
-      then_holds (condition_evaluated setting names (Some condition) progress)
+      then_ok (condition_evaluated setting names (Some condition) progress)
       (λ test. cond (is_true test.0) (inside
       (stmt_run setting names (length names) chosen) test.1)
       (inside (stmt_run setting names (length names) other) test.1))
@@ -139,13 +140,13 @@ mutual
       inside_kept setting P keeps
       (λ outside. result_and_then (stmt_run setting names (length names) first outside)
       (λ begun. loop begun)) progress (
-      then_holds (stmt_run setting names (length names) first progress)
+      then_ok (stmt_run setting names (length names) first progress)
       (λ begun. loop begun) P P
       (stmt_kept setting P keeps names (length names) first progress kept) (λ begun h.
       looped_kept setting P keeps (suc turn_limit) (condition_evaluated setting inner condition)
       turn
       (tested_kept setting P keeps inner condition)
-      (λ p g. then_holds (inside (stmt_run setting inner (length inner) body) p)
+      (λ p g. then_ok (inside (stmt_run setting inner (length inner) body) p)
       (inside (stmt_run setting inner (length inner) step)) P P
       (inside_kept setting P keeps (stmt_run setting inner (length inner) body) p
       (stmt_kept setting P keeps inner (length inner) body p g))
@@ -168,7 +169,7 @@ mutual
       → P progress → IfOk (stmts_run setting names outer block progress) P
   stmts_kept setting P keeps names outer tree.Done progress kept = kept
   stmts_kept setting P keeps names outer (tree.Then first rest) progress kept =
-      then_holds (stmt_run setting names outer first progress)
+      then_ok (stmt_run setting names outer first progress)
       (stmts_run setting (names_after names first) outer rest) P P
       (stmt_kept setting P keeps names outer first progress kept)
       (λ after h. stmts_kept setting P keeps (names_after names first) outer rest after h)

@@ -1,4 +1,4 @@
--- Loops of a body, turn by turn.
+-- Loops of a body, iteration by iteration.
 use Rattle.std.proofs.Common.{◌≡◌, ℕ, ℤ, suc, ◌+◌, ◌-◌, ◌<◌, ◌≤◌, true, false, cond, Result, Ok}
 use Rattle.std.proofs.Common.{Err, sym, ap, ◌∙◌, arith}
 use Rattle.strc_base.specs.Results.{result_and_then}
@@ -27,7 +27,7 @@ abbrev pub Leads : Test → Step → (round : ℕ) → Progress → Result Progr
 Leads test body round p whole = (fuel : ℕ) → fuel + round ≡ suc turn_limit
     → looped fuel test body p ≡ whole
 
--- one turn of a loop, once the condition has its value
+-- one iteration of a loop, once the condition has its value
 abbrev turn_of : (fuel : ℕ) → Test → Step → ℤ × Progress → Result Progress ElabError
 turn_of fuel test body tested = cond (is_true tested.0)
     (result_and_then (turned tested.1) (λ turning. result_and_then (body turning)
@@ -80,7 +80,7 @@ loop_ends test body round p tested value whole below leads is ends =
     (λ turning. result_and_then (body turning) (looped (turn_limit - round) test body)))
     (Ok tested)) ends
 
--- a turn that is refused
+-- an iteration that is refused
 pub turn_refused : (test : Test) (body : Step) (round : ℕ) (p tested : Progress) (value : ℤ)
     (whole : Result Progress ElabError) (e : ElabError) → round < TURN_LIMIT + 1
     → Leads test body round p whole → test p ≡ Ok (value, tested) → is_true value ≡ true
@@ -126,7 +126,7 @@ loop_goes_on test body round p tested after value store whole below leads is hol
     ∙ ap (λ r. result_and_then r go) (turned_done tested store turn)
     ∙ ap (λ r. result_and_then r (looped (turn_limit - round) test body)) ran)
 
--- no turn is left
+-- no iteration is left
 pub loop_over : (test : Test) (body : Step) (round : ℕ) (p : Progress)
     (whole : Result Progress ElabError) → TURN_LIMIT + 1 ≤ round → round ≤ TURN_LIMIT + 1
     → Leads test body round p whole → whole ≡ Err (refused.ConstFault causes.Turns)

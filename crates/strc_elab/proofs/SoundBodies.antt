@@ -25,7 +25,8 @@ use Rattle.strc_elab.specs.Elaboration.{composed}
 use Rattle.strc_elab.proofs.Keeping.{Keeps}
 use Rattle.strc_elab.proofs.SoundAssembly.{IsPart, IsSound, IsSoundlyElaborated}
 use Rattle.strc_elab.proofs.SoundRows.{IsSoundStream, one_more_sound, one_more_in_a_row}
-use Rattle.strc_elab.proofs.Steps.{then_holds, any_holds, kept_holds, both_true}
+use Rattle.strc_elab.proofs.Steps.{any_holds, kept_holds, both_true}
+use Rattle.strc_base.proofs.Results.{then_ok}
 
 -- what elaborates the streams one level below makes sound ones
 abbrev pub MakesSound : Setting → Type 0
@@ -83,9 +84,9 @@ child_sound : (kind : CompositeKind) (setting : Setting) → MakesSound setting
     → (names : TypedNames) (purpose : Role) (child : tree.Child) (progress : Progress)
     → IsSound kind progress → IfOk (child_run setting names purpose child progress) (IsSound kind)
 child_sound kind setting makes names purpose child progress sound =
-    then_holds (child_found setting names child progress.store) _ (λ found. Unit {0}) (IsSound kind)
+    then_ok (child_found setting names child progress.store) _ (λ found. Unit {0}) (IsSound kind)
     (any_holds (child_found setting names child progress.store)) (λ found h.
-    then_holds (setting.elaborate found.place found.text
+    then_ok (setting.elaborate found.place found.text
     (record { turns = found.store.traffic.turns; filters = progress.filters })) _
     IsSoundlyElaborated
     (IsSound kind) (makes found.place found.text (record
@@ -101,20 +102,20 @@ composed_sound kind setting makes names (tree.ChildOf purpose child) progress so
 composed_sound kind setting makes names (tree.Split split) progress sound =
     kept_holds (may_split progress) (refused.TypeMismatch setting.place.declaration) _
     (IsSound kind) (λ e.
-    then_holds (splitter_evaluated setting names split progress.store) _ (λ s. Unit {0})
+    then_ok (splitter_evaluated setting names split progress.store) _ (λ s. Unit {0})
     (IsSound kind) (any_holds (splitter_evaluated setting names split progress.store))
     (λ s h. sound))
 composed_sound kind setting makes names (tree.Join weights) progress sound =
     kept_holds (may_join progress) (refused.TypeMismatch setting.place.declaration) _
     (IsSound kind) (λ e.
-    then_holds (values_evaluated setting names (unwrap_or weights []) [] progress.store) _
+    then_ok (values_evaluated setting names (unwrap_or weights []) [] progress.store) _
     (λ j. Unit {0}) (IsSound kind)
     (any_holds (values_evaluated setting names (unwrap_or weights []) [] progress.store))
     (λ j h. sound))
 composed_sound kind setting makes names (tree.Enqueue item_value) progress sound =
     kept_holds (is_loop progress.kind) (refused.TypeMismatch setting.place.declaration) _
     (IsSound kind) (λ e.
-    then_holds (eval_checked setting.place names value.Int item_value progress.store) _
+    then_ok (eval_checked setting.place names value.Int item_value progress.store) _
     (λ i. Unit {0}) (IsSound kind)
     (any_holds (eval_checked setting.place names value.Int item_value progress.store))
     (λ i h. sound))

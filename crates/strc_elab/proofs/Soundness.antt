@@ -48,8 +48,9 @@ use Rattle.strc_elab.proofs.Keeping.{stmts_kept}
 use Rattle.strc_elab.proofs.SoundBodies.{MakesSound, keeps_sound}
 use Rattle.strc_elab.proofs.SoundAssembly.{IsSound, IsSoundlyElaborated, composite_sound}
 use Rattle.strc_elab.proofs.SoundRows.{items_same}
-use Rattle.strc_elab.proofs.Steps.{then_holds, then_known, then_did, any_holds, kept_holds}
-use Rattle.strc_elab.proofs.Steps.{both_hold, both_true}
+use Rattle.strc_elab.proofs.Steps.{then_known, then_did, any_holds, kept_holds}
+use Rattle.strc_elab.proofs.Steps.{both_true}
+use Rattle.strc_base.proofs.Results.{then_ok, both_ok}
 
 -- instances
 
@@ -79,7 +80,7 @@ body_sound : (setting : Setting) → MakesSound setting
     → (written : Option StreamType) (kind : CompositeKind) (block : tree.Stmts) (totals : Totals)
     → IfOk (composite_elaborated setting written kind block totals) IsSoundlyElaborated
 body_sound setting makes written kind block totals =
-    then_holds (stmts_run setting [] 0 block (initial_progress kind totals))
+    then_ok (stmts_run setting [] 0 block (initial_progress kind totals))
     (λ progress. composite_assembly kind setting.place.declaration written progress)
     (IsSound kind) IsSoundlyElaborated
     (stmts_kept setting (IsSound kind) (keeps_sound kind setting makes) [] 0 block
@@ -197,7 +198,7 @@ declared_types setting name (tree.Filter input output members) totals =
     resolved_types setting.place.constants filter resolved
     (instance_resolved setting.place filter resolved is)))
 declared_types setting name (tree.Composite types kind block) totals =
-    then_holds (stmts_run setting [] 0 block (initial_progress kind totals))
+    then_ok (stmts_run setting [] 0 block (initial_progress kind totals))
     (λ progress. composite_assembly kind setting.place.declaration (Some types) progress)
     (λ progress. Unit {0}) (HasTypes types)
     (any_holds (stmts_run setting [] 0 block (initial_progress kind totals)))
@@ -244,7 +245,7 @@ main_sound : (program : List Declaration) (found : ℕ × Declaration) → IsMai
     → IfOk (main_elaborated program found) (λ elaborated. IsElaborated elaborated.stream)
 unfolding level_limit
 main_sound program found is = then_finish (main_elaborated program found)
-    (both_hold (main_elaborated program found) IsSoundlyElaborated
+    (both_ok (main_elaborated program found) IsSoundlyElaborated
     (HasTypes (types_of found.1.stream)) is_sound typed)
   where
     is_sound : IfOk (main_elaborated program found) IsSoundlyElaborated
@@ -297,9 +298,9 @@ elaborated_is_sound program main stream e = subst (λ r. IfOk r IsElaborated) e 
   where
     sound : IfOk (elaborated program main) IsElaborated
     sound =
-        then_holds (not_doubled (doubled_from [] 0 program)) _ (λ u. Unit {0}) IsElaborated
+        then_ok (not_doubled (doubled_from [] 0 program)) _ (λ u. Unit {0}) IsElaborated
         (any_holds (not_doubled (doubled_from [] 0 program))) (λ u h.
-        then_holds (main_of program main) _ IsMain IsElaborated (main_is program main) (λ found is.
-        then_holds (main_elaborated program found) _ (λ elaborated. IsElaborated elaborated.stream)
+        then_ok (main_of program main) _ IsMain IsElaborated (main_is program main) (λ found is.
+        then_ok (main_elaborated program found) _ (λ elaborated. IsElaborated elaborated.stream)
         IsElaborated
         (main_sound program found is) (λ elaborated sound. sound)))

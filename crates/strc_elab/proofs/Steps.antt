@@ -4,12 +4,6 @@ use Rattle.strc_base.specs.Results.{result_and_then}
 use Rattle.strc_statements.specs.declared.error.ElabError.{ElabError}
 use Rattle.strc_elab.specs.Elaboration.{where_kept}
 
-pub then_holds : {A B : Type 0} (r : Result A ElabError) (go : A → Result B ElabError)
-    (Q : A → Type 0) (P : B → Type 0) → IfOk r Q → ((x : A) → Q x → IfOk (go x) P)
-    → IfOk (result_and_then r go) P
-then_holds (Ok x) go Q P h next = next x h
-then_holds (Err e) go Q P h next = tt
-
 pub then_known : {A B : Type 0} (r : Result A ElabError) (go : A → Result B ElabError)
     (P : B → Type 0) → ((x : A) → r ≡ Ok x → IfOk (go x) P) → IfOk (result_and_then r go) P
 then_known (Ok x) go P next = next x refl
@@ -28,11 +22,6 @@ pub either_holds : {A : Type 0} (test : Bool) (r s : Result A ElabError) (P : A 
     → IfOk r P → IfOk s P → IfOk (cond test r s) P
 either_holds true r s P h g = h
 either_holds false r s P h g = g
-
-pub both_hold : {A : Type 0} (r : Result A ElabError) (P Q : A → Type 0) → IfOk r P → IfOk r Q
-    → IfOk r (λ x. P x × Q x)
-both_hold (Ok x) P Q h g = (h, g)
-both_hold (Err e) P Q h g = tt
 
 pub then_did : {A B : Type 0} (r : Result A ElabError) (go : A → Result B ElabError) (y : B)
     → result_and_then r go ≡ Ok y → (x : A) × (r ≡ Ok x) × (go x ≡ Ok y)

@@ -1,4 +1,4 @@
--- The turns of loops.
+-- The iterations of loops.
 use Rattle.std.proofs.Common.{◌≡◌, ◌<◌, ◌≤◌, ◌+◌, true, false, Ok, Err, refl, arith, nat_lt}
 use Rattle.std.proofs.lemmas.Bool.{lt-ltb, le-ltb}
 use Rattle.strc_semantics.specs.declared.fault.Cause.TheVariants.{Turns}
@@ -9,7 +9,7 @@ pub turn_limit_is : turn_limit ≡ TURN_LIMIT
 unfolding turn_limit
 turn_limit_is = refl
 
--- a turn within the limit is counted
+-- an iteration within the limit is counted
 pub turned_under : (store : Store) → store.traffic.turns < TURN_LIMIT
     → turned store ≡ Ok (record store {
       traffic =
@@ -21,7 +21,7 @@ turned_under store below =
     lt-ltb store.traffic.turns turn_limit lt in
     rw e refl
 
--- a turn past the limit is a fault
+-- an iteration past the limit is a fault
 pub turned_over : (store : Store) → TURN_LIMIT ≤ store.traffic.turns → turned store ≡ Err Turns
 turned_over store above =
     let ge : turn_limit ≤ store.traffic.turns = omega (arith, turn_limit_is) in

@@ -48,7 +48,7 @@ abbrev pub where_kept : {A : Type 0} → Bool → ElabError → Result A ElabErr
 where_kept true refusal next = next
 where_kept false refusal next = Err refusal
 
--- how many turns all loops have made, and how many filters there are, so far
+-- how many iterations all loops have made, and how many filters there are, so far
 pub record Totals : Type 0 where
   pub turns : ℕ
   pub filters : ℕ
@@ -66,7 +66,7 @@ pub record Setting : Type 0 where
   pub place : Place
   pub elaborate : Place → Text → Totals → Result Elaborated ElabError
 
--- how far the body of a composite stream has run: its variables and the turns so far, what its
+-- how far the body of a composite stream has run: its variables and the iterations so far, what its
 -- stream statements have said, and how many filters there are
 pub record Progress : Type 0 where
   pub kind : CompositeKind
@@ -100,12 +100,13 @@ abbrev pub inside : (Progress → Result Progress ElabError) → Progress → Re
 inside runs progress = result_and_then (runs progress)
     (λ inner. Ok (record inner { store = block_left progress.store inner.store }))
 
--- one more turn of a loop
+-- one more iteration of a loop
 abbrev pub turned : Progress → Result Progress ElabError
 turned progress = result_and_then (computed (firing.turned progress.store))
     (λ store. Ok (record progress { store = store }))
 
--- a loop: as long as the test holds, one more turn; `fuel` is more than the turns that there may be
+-- a loop: as long as the test holds, one more iteration; `fuel` is more than the iterations that
+-- there may be
 abbrev pub looped : (fuel : ℕ) → (test : Progress → Result (ℤ × Progress) ElabError)
     → (body : Progress → Result Progress ElabError) → Progress → Result Progress ElabError
 looped zero test body progress = Err (refused.ConstFault causes.Turns)

@@ -184,6 +184,6 @@ LoopRow =
     ≡ Ok (row (filter letter_s Void Int counting ∷ multiplier (pos 1) ∷ multiplier (pos 2)
     ∷ multiplier (pos 3) ∷ filter letter_p Int Void printing ∷ []))
 
--- a loop that never ends makes too many turns
+-- a loop that never ends makes too many iterations
 abbrev pub EndlessLoopRow : Type 0
 EndlessLoopRow = elaborated endless_loop None ≡ Err (ConstFault Turns)

@@ -7,14 +7,14 @@ use Rattle.strc_elab.specs.Elaboration.{Setting, Progress, condition_evaluated, 
 use Rattle.strc_elab.specs.Elaboration.{stmt_run}
 use Rattle.strc_statements.specs.declared.error.ElabError.{ElabError}
 
--- a loop without a step, which may turn fewer times than this
+-- a loop without a step, which may make fewer iterations than this
 abbrev pub while_looped : Setting → TypedNames → tree.Expr → tree.Stmt → (fuel : ℕ) → Progress
     → Result Progress ElabError
 while_looped setting names condition body fuel progress =
     looped fuel (condition_evaluated setting names (Some condition))
     (inside (stmt_run setting names (length names) body)) progress
 
--- a loop with a step after each turn
+-- a loop with a step after each iteration
 abbrev pub for_looped : Setting → TypedNames → Option tree.Expr → (step body : tree.Stmt)
     → (fuel : ℕ) → Progress → Result Progress ElabError
 for_looped setting names condition step body fuel progress =

@@ -38,7 +38,7 @@ pub(crate) struct Body<'a, F> {
     pub(crate) elaborate: F,
 }
 
-/// One more turn of a loop, unless the limit of the program is reached.
+/// One more iteration of a loop, unless the limit of the program is reached.
 #[tactic(auto, using(crate::proofs::Turns::turned_under, crate::proofs::Turns::turned_over))]
 fn turn(store: &mut Store) -> Result<(), ElabError>
     ensures done { Done (statements.computed (firing.turned (store_of store.old))) result
@@ -220,7 +220,7 @@ impl<F: Fn(Task) -> Result<Elaborated, ElabError>> Body<'_, F> {
         Ok(())
     }
 
-    /// Runs a loop with a step, and what comes before its first turn, in a scope of its own.
+    /// Runs a loop with a step, and what comes before its first iteration, in a scope of its own.
     #[cycle(body)]
     fn for_loop(
         &self,
@@ -246,7 +246,7 @@ impl<F: Fn(Task) -> Result<Elaborated, ElabError>> Body<'_, F> {
         Ok(())
     }
 
-    /// Runs a loop without a step: as long as the condition holds, one more turn.
+    /// Runs a loop without a step: as long as the condition holds, one more iteration.
     #[cycle(body)]
     fn while_turns(
         &self,
@@ -261,7 +261,7 @@ impl<F: Fn(Task) -> Result<Elaborated, ElabError>> Body<'_, F> {
         ensures names { OnOk result (progress.new.store.variables.names
             ≡ progress.old.store.variables.names) }
     {
-        // The limit of turns comes first; the range is there to end the loop in any case.
+        // The limit of iterations comes first; the range is there to end the loop in any case.
         for _round in 0..TURN_LIMIT + 1 {
             if !is_true(self.eval_condition(Some(condition), progress)?) {
                 return Ok(());
@@ -272,7 +272,7 @@ impl<F: Fn(Task) -> Result<Elaborated, ElabError>> Body<'_, F> {
         Err(ElabError::fault(Cause::Turns))
     }
 
-    /// Runs a loop with a step after each turn.
+    /// Runs a loop with a step after each iteration.
     #[cycle(body)]
     fn for_turns(
         &self,

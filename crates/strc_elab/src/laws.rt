@@ -17,7 +17,7 @@ pub fn anonymous_in_a_loop()
     ensures { LoopRow }
 {}
 
-/// A loop that never ends makes too many turns.
+/// A loop that never ends makes too many iterations.
 pub fn endless_loop()
     ensures { EndlessLoopRow }
 {}

@@ -14,8 +14,8 @@ use strc_stream::stream::Stream;
 use strc_syntax::tree::{CompositeKind, Role, StreamType};
 
 /// What its stream statements have said so far: the children of `add` with their types, the weights
-/// of `split` and `join`, body and loop, and the enqueued items; its variables and the turns so
-/// far, and how many filters there are. Contracts see nothing of places.
+/// of `split` and `join`, body and loop, and the enqueued items; its variables and the iterations
+/// so far, and how many filters there are. Contracts see nothing of places.
 #[derive(Drop)]
 pub(crate) struct Progress {
     pub(crate) kind: CompositeKind,

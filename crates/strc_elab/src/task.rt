@@ -18,7 +18,7 @@ pub(crate) enum Text<'a> {
     Writer(&'a StringLiteral),
 }
 
-/// How many turns all loops have made, and how many filters there are, so far.
+/// How many iterations all loops have made, and how many filters there are, so far.
 #[derive(Clone, Copy)]
 pub(crate) struct Totals {
     pub(crate) turns: u32,

@@ -1,8 +1,5 @@
 -- What fission comes to, of what its steps come to.
 use Rattle.std.proofs.Common.{◌≡◌, ap, ap₂, ◌∙◌, subst, ℕ, ◌≤◌, List, map, length, Option}
-use Rattle.std.proofs.Common.{Result, Err}
-use Rattle.std.specs.Result.{IsErr, IsErrAnd}
-use mathlib.Core.Path.{Path}
 use Rattle.strc_graph.specs.Graphs.{Graph, NodeCode, Channel}
 use Rattle.strc_graph.specs.NodeView.{GraphParts, graph_view, node_view, channel_view}
 use Rattle.strc_graph.specs.declared.graph.Fission.{Fission}
@@ -19,14 +16,6 @@ use Rattle.strc_fiss.specs.Fissions.{SplitPasses}
 use Rattle.strc_fiss.specs.Numbers.{node_limit, base}
 use Rattle.strc_fiss.specs.Splitting.{split_graph, split_greatest, split_last}
 use Rattle.strc_fiss.specs.Units.{split_units}
-use Rattle.strc_fiss.specs.declared.error.FissError.{FissError}
-
--- an error that is passed on is the same
-pub passed_error : {A : Type 0} (result : Result A FissError) (error other : FissError)
-    → IsErr result × IsErrAnd result (λ e. e ≡ error)
-    → Path (Result A FissError) result (Err other) → other ≡ error
-passed_error {A} result error other given is =
-    (subst (λ (r : Result A FissError). IsErr r × IsErrAnd r (λ e. e ≡ error)) is given).1
 
 pub graph_is : (split : GraphParts) (graph : Graph) → map node_view split.nodes ≡ graph.nodes
     → map channel_view split.channels ≡ graph.channels → split.outer_loops ≡ graph.outer_loops

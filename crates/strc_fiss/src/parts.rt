@@ -9,11 +9,12 @@ ghost use Rattle.strc_fiss.specs.Numbers.{origin_of, is_dealt};
 ghost use Rattle.strc_fiss.specs.Splitting as spec;
 ghost use Rattle.strc_fiss.specs.declared.split.Origin.{Origin};
 
-use crate::copying::{copied_of, copy_node};
+use crate::copying::copied_of;
 use crate::numbers::part_count;
 use crate::split::Origin;
 use std::alloc::{AllocError, Global};
 use strc_base::memory::NoMemory;
+use strc_graph::copying::copy_node;
 use strc_graph::graph::{Fission, Graph, Node};
 
 /// The parts of all nodes.

@@ -150,7 +150,7 @@ fn share_of(
     }
 }
 
-/// The same of an identity.
+/// How the firings of an identity are dealt.
 fn identity_share(alone: bool, count: u32, ways: u32) -> Fission
     ensures { result ≡ spec.dealt (Some graphs.Identity) count
         (cond (alone && nat_lt 0 count) (spec.greatest_divisor count ways) 1) }
@@ -165,7 +165,7 @@ fn identity_share(alone: bool, count: u32, ways: u32) -> Fission
     }
 }
 
-/// The same of a filter.
+/// How the firings of a filter are dealt.
 fn filter_share(
     alloc: Global,
     code: &Code,

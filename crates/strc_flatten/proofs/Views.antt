@@ -57,7 +57,7 @@ streams_view-drop streams index stream less is =
     ∙ ap (λ (s : Stream). instances.More (stream_view s) (streams_view (drop (index + 1) streams)))
     (sym is)
 
--- the same of a stream that is one, and of the list that is borrowed
+-- the view of a stream that is a pipeline, by the list that is borrowed
 pub pipeline_view : (stream : Stream) (children : Vec Stream Global) (contained : List Stream)
     → stream ≡ Pipeline children → contained ≡ children.items
     → stream_view stream ≡ instances.Pipeline (streams_view contained)

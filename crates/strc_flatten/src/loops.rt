@@ -42,7 +42,7 @@ pub(crate) fn push_loops(
     Ok(())
 }
 
-/// The same for streams one after another.
+/// Adds the joiner of the outermost loop, or none, for each node of streams one after another.
 #[cycle(loops)]
 fn push_row(first: u32, streams: &[Stream], loops: &mut Vec<Option<u32>>) -> Result<(), NoMemory>
     requires { first + length (row_nodes (streams_view streams.now)) ≤ node_limit }

@@ -1,13 +1,14 @@
 // The nodes of a stream, in preorder.
 
-ghost use Rattle.std.specs.Prelude.{◌≡◌, ◌++◌, map, OnOk, IfOk};
+ghost use Rattle.std.specs.Prelude.{◌≡◌, ◌++◌, map, OnOk};
 ghost use Rattle.std.specs.Option.{option_map};
 ghost use Rattle.strc_graph.specs.NodeView.{node_view, splitter_view};
 ghost use Rattle.strc_stream.specs.View.{stream_view, streams_view};
 ghost use Rattle.strc_stream.specs.Flattening.{nodes_of, row_nodes, splitter_nodes, joiner_nodes};
 
-use std::alloc::{AllocError, Global};
+use std::alloc::Global;
 use strc_base::memory::NoMemory;
+use strc_graph::copying::copy_splitter;
 use strc_graph::graph::{Node, Splitter};
 use strc_stream::stream::Stream;
 
@@ -81,14 +82,4 @@ fn push_joiner(
         nodes.push(Node::Joiner(weights.to_vec(alloc)?))?;
     }
     Ok(())
-}
-
-/// An equal splitter.
-fn copy_splitter(alloc: Global, splitter: &Splitter) -> Result<Splitter, AllocError>
-    ensures { IfOk result (λ copy. splitter_view copy ≡ splitter_view splitter.now) }
-{
-    match splitter {
-        Splitter::Duplicate(carried) => Ok(Splitter::Duplicate(carried.to_vec(alloc)?)),
-        Splitter::Roundrobin(weights) => Ok(Splitter::Roundrobin(weights.to_vec(alloc)?)),
-    }
 }

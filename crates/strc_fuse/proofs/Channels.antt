@@ -1,16 +1,16 @@
 -- An order is valid where it passes each channel by itself.
-use Rattle.std.proofs.Common.{◌≡◌, refl, sym, ap, ◌∙◌, ℕ, zero, suc, ◌+◌, ◌*◌, ◌<◌, ◌≤◌}
-use Rattle.std.proofs.Common.{Bool, true, false, cond, eqb, List, [], ◌∷◌, get_or, length}
+use Rattle.std.proofs.Common.{◌≡◌, refl, sym, ap, ◌∙◌, ℕ, zero, suc, ◌+◌, ◌*◌, ◌<◌}
+use Rattle.std.proofs.Common.{Bool, true, false, cond, eqb, List, [], ◌∷◌}
 use Rattle.std.proofs.Common.{All, arith, inl, inr, ◌⊎◌, eq-eqb, eqb-true}
 use Rattle.strc_startup.specs.Startup.{popped, supply}
 use Rattle.strc_startup.specs.declared.channel_rates.ChannelRates.{ChannelRates}
 use Rattle.strc_schedule.specs.Firings.{Firings, turns_of, fired, reach, HasWindow}
 use Rattle.strc_schedule.specs.Order.{firing_count, IsOrder}
 use Rattle.strc_schedule.specs.Rounds.{IsPastPrework}
-use Rattle.strc_schedule.proofs.Repeating.{supply_more, popped_more, pops_alike}
+use Rattle.strc_schedule.proofs.Repeating.{supply_more, popped_more, pops_alike, past_prework_after}
 use Rattle.strc_dataflow.proofs.Diamond.{apart_other}
 use Rattle.strc_dataflow.proofs.Links.{Link, takes, sum_of, sum_takes, Passes, easier}
-use Rattle.strc_fuse.proofs.Counting.{counts_alike}
+use Rattle.strc_admissible.proofs.Orders.{firing_count_is}
 
 -- a channel as its source gives to it
 abbrev pub gift : ChannelRates → Link
@@ -54,20 +54,6 @@ reach_is : (rates : ChannelRates) (n : ℕ)
 reach_is rates zero (inl some) = absurd (omega (arith, some))
 reach_is rates zero (inr same) = omega (arith, same.1)
 reach_is rates (suc n) past = refl
-
--- first firings that are done stay so
-more_past : (a b : ℕ) (P : Type 0) → (0 < a) ⊎ P → (0 < a + b) ⊎ P
-more_past a b P (inl some) = inl (omega (arith, some))
-more_past a b P (inr same) = inr same
-
-past_prework_after : (counts : Firings) (node : ℕ) (rates : ChannelRates)
-    → IsPastPrework counts rates → IsPastPrework (fired counts 1 node) rates
-past_prework_after counts node rates past = record {
-  source = more_past (counts rates.source) (turns_of 1 node rates.source)
-      (rates.first_push ≡ rates.push) past.source;
-  target = more_past (counts rates.target) (turns_of 1 node rates.target)
-      ((rates.first_pop ≡ rates.pop) × (rates.first_window ≡ rates.window)) past.target;
-}
 
 same_other : (a b : ℕ) → eqb a b ≡ true → eqb b a ≡ true
 same_other a b e = eq-eqb b a (sym (eqb-true a b e))
@@ -141,10 +127,10 @@ module _ (rates : ChannelRates) where
       → sum_of (takes (gift rates)) nodes ≡ firing_count nodes rates.source * rates.push
   sum_gives nodes =
       sum_takes (gift rates) nodes
-      ∙ ap (λ (n : ℕ). n * rates.push) (counts_alike nodes rates.source)
+      ∙ ap (λ (n : ℕ). n * rates.push) (firing_count_is nodes rates.source)
 
   pub sum_taken : (nodes : List ℕ)
       → sum_of (takes (link_of rates)) nodes ≡ firing_count nodes rates.target * rates.pop
   sum_taken nodes =
       sum_takes (link_of rates) nodes
-      ∙ ap (λ (n : ℕ). n * rates.pop) (counts_alike nodes rates.target)
+      ∙ ap (λ (n : ℕ). n * rates.pop) (firing_count_is nodes rates.target)

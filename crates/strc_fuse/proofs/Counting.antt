@@ -1,6 +1,6 @@
 -- How often nodes fire in lists and units.
-use Rattle.std.proofs.Common.{◌≡◌, refl, sym, ap, ◌∙◌, ℕ, zero, suc, ◌+◌, ◌*◌, ◌<◌, List, [], ◌∷◌}
-use Rattle.std.proofs.Common.{◌++◌, map, arith, inl, inr, ◌⊎◌, Bool, true, false, cond, eqb}
+use Rattle.std.proofs.Common.{◌≡◌, refl, ap, ◌∙◌, ℕ, zero, suc, ◌+◌, ◌*◌, ◌<◌, List, [], ◌∷◌}
+use Rattle.std.proofs.Common.{◌++◌, arith, inl, inr, ◌⊎◌}
 use Rattle.std.proofs.lemmas.Bool.{cases_lt}
 use Rattle.strc_dataflow.specs.Order as generic
 use Rattle.strc_schedule.specs.declared.unit as units
@@ -9,22 +9,8 @@ use Rattle.strc_schedule.specs.Order as order_lists
 use Rattle.strc_schedule.specs.Order.{firing_count}
 use Rattle.strc_schedule.proofs.FiringCounts.{firing_count_append}
 use Rattle.strc_dataflow.specs.Fused.{repeated}
-use Rattle.strc_dataflow.specs.FusedUnits.{RoundUnit, firings_of, nodes_of, joined_unit}
-use Rattle.strc_fuse.specs.Units.{round_unit, round_units}
-
--- both layers count alike
-pub counts_alike : (order : List ℕ) (node : ℕ)
-    → generic.firing_count order node ≡ firing_count order node
-unfolding generic.firing_count generic.raised
-counts_alike [] node = refl
-counts_alike (first ∷ order) node =
-    by_test (generic.firing_count order node) (firing_count order node) (eqb node first)
-    (counts_alike order node)
-  where
-    by_test : (mine its : ℕ) (same : Bool) → mine ≡ its
-        → cond same (suc mine) mine ≡ cond same 1 0 + its
-    by_test mine its true e = omega arith
-    by_test mine its false e = omega arith
+use Rattle.strc_dataflow.specs.FusedUnits.{RoundUnit, firings_of, joined_unit}
+use Rattle.strc_fuse.specs.Units.{round_units}
 
 pub count_repeated : (turns : ℕ) (nodes : List ℕ) (node : ℕ)
     → firing_count (repeated turns nodes) node ≡ turns * firing_count nodes node

@@ -20,7 +20,7 @@ use Rattle.strc_fuse.specs.Units.{IsPlaced, ArePlaced}
 use Rattle.strc_fuse.proofs.Channels.{link_of, order_on, order_from, passes_from, from_passes}
 use Rattle.strc_fuse.proofs.Channels.{sum_gives, sum_taken}
 use Rattle.strc_fuse.proofs.Counting.{count_repeated, count_joined, occurs, times_zero, in_either}
-use Rattle.strc_fuse.proofs.Counting.{counts_alike}
+use Rattle.strc_admissible.proofs.Orders.{firing_count_is}
 
 cancel : (h x y : ℕ) → 0 < h → h * x ≡ h * y → x ≡ y
 cancel h x y some e =
@@ -184,7 +184,7 @@ module _ (channels : List ChannelRates) (round : Firings) where
           → firing_count nodes rates.source ≡ 0
           → IsClear (link_of rates) unit.nodes next.nodes m n nodes
       clear_of nodes no_target no_source = record {
-        no_target = counts_alike nodes rates.target ∙ no_target;
+        no_target = firing_count_is nodes rates.target ∙ no_target;
         no_gift = sum_gives rates nodes
             ∙ (let e : firing_count nodes rates.source * rates.push ≡ 0 =
             omega (arith, ap (λ (k : ℕ). k * rates.push) no_source) in e);
@@ -210,7 +210,7 @@ module _ (channels : List ChannelRates) (round : Firings) where
           → 0 < firing_count next.nodes rates.target
           → IsForward (link_of rates) unit.nodes next.nodes m n
       forward gives takes = record {
-        no_target = counts_alike unit.nodes rates.target ∙ not_first rates.target takes;
+        no_target = firing_count_is unit.nodes rates.target ∙ not_first rates.target takes;
         no_gift = sum_gives rates next.nodes
             ∙ (let e : firing_count next.nodes rates.source * rates.push ≡ 0 =
             omega (arith, ap (λ (k : ℕ). k * rates.push) (not_next rates.source gives)) in e);

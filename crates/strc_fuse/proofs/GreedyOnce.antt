@@ -1,15 +1,13 @@
 -- The units of a greedy order: they fire a node each, and are the only ones.
-use Rattle.std.proofs.Common.{◌≡◌, ◌∙◌, refl, sym, ap, subst, ℕ, ◌+◌, ◌<◌, ◌≤◌, List, [], ◌∷◌, ◌++◌}
-use Rattle.std.proofs.Common.{length, inl, inr, arith}
-use Rattle.std.proofs.lemmas.Bool.{cases_lt}
+use Rattle.std.proofs.Common.{◌≡◌, ◌∙◌, refl, sym, ap, subst, ℕ, ◌+◌, List, [], ◌∷◌}
+use Rattle.std.proofs.Common.{length, arith}
 use Rattle.strc_startup.specs.declared.channel_rates.ChannelRates.{ChannelRates}
 use Rattle.strc_schedule.specs.declared.unit as units
-use Rattle.strc_schedule.specs.Firings.{Firings, fired, FindsWindows}
+use Rattle.strc_schedule.specs.Firings.{Firings, fired}
 use Rattle.strc_schedule.specs.Greedy.{firings_of, less_turns, IsNext, IsGreedy, IsGreedyOrder}
 use Rattle.strc_schedule.specs.Order.{firing_count, repeated}
-use Rattle.strc_schedule.proofs.FiringCounts.{fired_none, firing_count_append}
-use Rattle.strc_schedule.proofs.FiringCounts.{firing_count_repeated}
-use Rattle.strc_schedule.proofs.FiringCounts.{turns_same}
+use Rattle.strc_schedule.proofs.FiringCounts.{firing_count_append}
+use Rattle.strc_schedule.proofs.Deciding.{same_node, same_turns, fires}
 use Rattle.strc_dataflow.specs.FusedUnits.{RoundUnit}
 use Rattle.strc_fuse.specs.Laws.{AllFireNodes}
 use Rattle.strc_fuse.specs.Units.{round_unit, round_units}
@@ -24,25 +22,6 @@ greedy_fires channels counts left (unit ∷ order) (node, single, next, later) =
       later,
 )
 
--- the next unit is one
-
-same_node : (channels : List ChannelRates) (counts left : Firings) (m n v w : ℕ)
-    → IsNext channels counts left m v → IsNext channels counts left n w → v ≤ w
-same_node channels counts left m n v w one two =
-    elim (cases_lt w v) [
-      | inl less ↦ absurd (one.lowest w less (omega (arith, two.some, two.within))
-          (subst (λ k. FindsWindows channels k w) (fired_none counts w) (two.finds 0 two.some)))
-      | inr most ↦ omega (arith, most)
-    ]
-
-same_turns : (channels : List ChannelRates) (counts left : Firings) (m n v : ℕ)
-    → IsNext channels counts left m v → IsNext channels counts left n v → m ≤ n
-same_turns channels counts left m n v one two =
-    elim (cases_lt n m) [
-      | inl less ↦ absurd (two.most (omega (arith, less, one.within)) (one.finds n less))
-      | inr most ↦ omega (arith, most)
-    ]
-
 -- how often a unit's node fires in it, and in those after it
 unit_count : (unit : units.Unit.Unit) (rest : List units.Unit.Unit) (node other : ℕ)
     → unit.nodes.items ≡ node ∷ []
@@ -52,19 +31,6 @@ unit_count unit rest node other single =
     firing_count_append (repeated unit.turns unit.nodes.items) (firings_of rest) other
     ∙ ap (λ (l : List ℕ). firing_count (repeated unit.turns l) other
     + firing_count (firings_of rest) other) single
-
-fires : (channels : List ChannelRates) (counts left : Firings) (unit : units.Unit.Unit)
-    (rest : List units.Unit.Unit) (node : ℕ) → unit.nodes.items ≡ node ∷ []
-    → IsNext channels counts left unit.turns node
-    → 0 < firing_count (firings_of (unit ∷ rest)) node
-fires channels counts left unit rest node single next =
-    omega (
-      arith,
-      unit_count unit rest node node single,
-      firing_count_repeated unit.turns node node,
-      turns_same unit.turns node node refl,
-      next.some,
-    )
 
 same_units : (channels : List ChannelRates) (counts left : Firings)
     (order other : List units.Unit.Unit) → IsGreedy channels counts left order

@@ -1,12 +1,12 @@
 // Which nodes may be fused.
 
 ghost use Rattle.std.specs.Prelude.{◌≡◌, ◌<◌, All, MatchBool, length};
-ghost use Rattle.strc_graph.specs.NodeView.{graph_view, node_view};
-ghost use Rattle.strc_graph.specs.Rates as spec;
+ghost use Rattle.strc_graph.specs.NodeView.{graph_view};
 ghost use Rattle.strc_dataflow.specs.FusedUnits.{AreFree};
 ghost use Rattle.strc_fuse.specs.Units.{is_free};
 
-use strc_graph::graph::{Graph, Node};
+use strc_graph::graph::Graph;
+use strc_graph::rates::fires_by_rounds;
 
 /// Whether all nodes of a list may be fused.
 pub(crate) fn are_free(graph: &Graph, nodes: &[u32]) -> bool
@@ -30,20 +30,5 @@ fn node_is_free(graph: &Graph, node: usize) -> bool
     match graph.outer_loop(node) {
         Some(_) => false,
         None => !fires_by_rounds(&graph.nodes()[node]),
-    }
-}
-
-/// Whether a node is a scatter, a copy or a gather.
-fn fires_by_rounds(node: &Node) -> bool
-    ensures { result ≡ spec.fires_by_rounds (node_view node.now) }
-{
-    match node {
-        Node::Scatter(_) | Node::Copy(_, _) | Node::Gather(_) => true,
-        Node::Filter(_)
-        | Node::Identity
-        | Node::FileReader(_)
-        | Node::FileWriter(_)
-        | Node::Splitter(_)
-        | Node::Joiner(_) => false,
     }
 }

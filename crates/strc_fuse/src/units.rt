@@ -58,7 +58,7 @@ pub(crate) fn fused_units(
     }
 }
 
-/// The same of a first unit and those after it.
+/// The units after fusion of a first unit and those after it.
 fn fused_from(
     alloc: Global,
     graph: &Graph,

@@ -1,10 +1,12 @@
 -- Ports that carry items are ports.
 use Rattle.std.proofs.Common.{◌≡◌, ℕ, zero, suc, ◌<◌, Bool, true, List, [], ◌∷◌, length}
-use Rattle.std.proofs.Common.{get_or, arith}
+use Rattle.std.proofs.Common.{get_or, arith, refl}
 use Rattle.std.specs.Prelude.{All, false, nat_lt, slice_index, slice_index_or}
 use Rattle.std.specs.List.{AllByRecursion}
 use Rattle.std.proofs.lemmas.Bool.{ltb-true}
 use Rattle.strc_graph.specs.Graphs.{NodeCode, Joiner, Splitter, Duplicate, Roundrobin, Channel}
+use Rattle.strc_graph.specs.Graphs.{Filter, Identity, FileReader, FileWriter, Scatter, Copy, Gather}
+use Rattle.strc_graph.specs.Graphs.{reads_input}
 use Rattle.strc_graph.specs.Graphs.{JoinsPorts, input_ports, output_ports, inputs_at, outputs_at}
 use Rattle.strc_graph.specs.Carriers.{carries_in, carries_out, takes_at, gives_at, JoinsCarriers}
 
@@ -70,3 +72,17 @@ pub all_give : (nodes : List NodeCode) → AllByRecursion CarriesAll nodes → (
 all_give [] all node port less = absurd (omega arith)
 all_give (code ∷ codes) all zero port less = all.0.outputs port less
 all_give (code ∷ codes) all (suc node) port less = all_give codes all.1 node port less
+
+-- a port that carries items of channels isn't a reader's
+pub carrier_reads : (code : NodeCode) (port : ℕ) → carries_in code port ≡ true
+    → reads_input code ≡ false
+carrier_reads (FileReader text) port e =
+    absurd (omega (arith, carrier_is_input (FileReader text) port e))
+carrier_reads (Filter name filter) port e = refl
+carrier_reads Identity port e = refl
+carrier_reads (FileWriter text) port e = refl
+carrier_reads (Splitter splitter) port e = refl
+carrier_reads (Joiner weights) port e = refl
+carrier_reads (Scatter fission) port e = refl
+carrier_reads (Copy copied fission) port e = refl
+carrier_reads (Gather fission) port e = refl

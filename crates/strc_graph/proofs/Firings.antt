@@ -82,7 +82,7 @@ one_or_none : (carries : Bool) (items : List ℤ) → length items ≡ 1
 one_or_none true items e = e
 one_or_none false items e = refl
 
-span_length : (weights : List ℕ) (items : List ℤ) → length items ≡ sum weights → (port : ℕ)
+pub span_length : (weights : List ℕ) (items : List ℤ) → length items ≡ sum weights → (port : ℕ)
     → length (take (slice_index weights port) (drop (span_start weights port) items))
     ≡ slice_index weights port
 span_length weights items e port =

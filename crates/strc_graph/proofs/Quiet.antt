@@ -5,6 +5,7 @@ use Rattle.std.proofs.Common.{List, [], ◌∷◌, ◌++◌, length, Option, Som
 use Rattle.std.specs.Prelude.{nat_lt, slice_get, if◌then◌else◌}
 use Rattle.std.specs.Result.{IfOk}
 use Rattle.strc_base.specs.Results.{result_and_then}
+use Rattle.strc_base.proofs.Results.{then_ok}
 use Rattle.strc_syntax.specs.Tree as tree
 use Rattle.strc_syntax.specs.declared.tree.AssignOperator.{AssignOperator}
 use Rattle.strc_syntax.specs.declared.tree.AssignOperator.TheVariants as assign
@@ -39,13 +40,6 @@ or_first false b e = refl
 or_second : (a b : Bool) → (a || b) ≡ false → b ≡ false
 or_second true b e = absurd (cc)
 or_second false b e = e
-
--- what holds of the value of each step holds of both
-pub then_ok : {A B : Type 0} (result : Result A Cause) (go : A → Result B Cause) (P : A → Type 0)
-    (Q : B → Type 0) → IfOk result P → ((a : A) → P a → IfOk (go a) Q)
-    → IfOk (result_and_then result go) Q
-then_ok (Ok a) go P Q h next = next a h
-then_ok (Err cause) go P Q h next = tt
 
 -- an expression that prints nothing more than these words
 abbrev GivesQuietly : List Word → Result (ℤ × Store) Cause → Type 0

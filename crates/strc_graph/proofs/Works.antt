@@ -20,7 +20,7 @@ no_block (tree.Init block ∷ rest) none = no_block rest none
 no_block (tree.Prework rates block ∷ rest) none = absurd (cc)
 no_block (tree.Work rates block ∷ rest) none = no_block rest none
 
-no_rates : (members : List tree.Member) → is_some (prework_block members) ≡ false
+pub no_rates : (members : List tree.Member) → is_some (prework_block members) ≡ false
     → prework_rates members ≡ None
 no_rates [] none = refl
 no_rates (tree.Fields kind variables ∷ rest) none = no_rates rest none

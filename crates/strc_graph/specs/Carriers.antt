@@ -22,7 +22,7 @@ abbrev pub carries_out : NodeCode → (port : ℕ) → Bool
 carries_out (Splitter splitter) port = splitter_carries splitter port
 carries_out code port = nat_lt port (output_ports code)
 
--- the same of a node by its number; no port does where there is no node
+-- whether an input port of the node of this number does; no port does where there is no node
 abbrev pub takes_at : List NodeCode → (node port : ℕ) → Bool
 takes_at nodes node port = option_map_or (λ code. carries_in code port) (slice_get nodes node) false
 

@@ -8,6 +8,7 @@
 #![tactic(auto)]
 
 pub mod condition;
+pub mod copying;
 pub mod graph;
 pub mod instance;
 pub mod laws;

@@ -215,3 +215,18 @@ fn product(first: u32, second: u32, third: u32) -> u128
 {
     u128::from(first) * u128::from(second) * u128::from(third)
 }
+
+/// Whether a node is a scatter, a copy or a gather, which have no rates by `work`.
+pub fn fires_by_rounds(node: &Node) -> bool
+    ensures { result ≡ rates.fires_by_rounds (node_view node.now) }
+{
+    match node {
+        Node::Scatter(_) | Node::Copy(_, _) | Node::Gather(_) => true,
+        Node::Filter(_)
+        | Node::Identity
+        | Node::FileReader(_)
+        | Node::FileWriter(_)
+        | Node::Splitter(_)
+        | Node::Joiner(_) => false,
+    }
+}

@@ -17,9 +17,9 @@ use Rattle.strc_core.specs.States.{AreFresh, IsFresh}
 use Rattle.strc_core.specs.declared.stop.Stop.{Stop}
 use Rattle.strc_core.specs.Parcels.{ParcelView, parcel, empty_load}
 use Rattle.strc_stage.specs.Plans.{PlanParts, transformed_of}
-use Rattle.strc_staged.specs.Beginnings.{IsBeginning, IsFree, IsStageOf, crosses, rooms_of}
-use Rattle.strc_staged.specs.Plans.{running_of}
-use Rattle.strc_staged.specs.Steps.{Gathered, StageState}
+use Rattle.strc_stages.specs.Beginnings.{IsBeginning, IsFree, IsStageOf, crosses, rooms_of}
+use Rattle.strc_stages.specs.Plans.{running_of}
+use Rattle.strc_stages.specs.Steps.{Gathered, StageState}
 use Rattle.strc_stages.specs.Blocks as blocks
 use Rattle.strc_stages.specs.Blocks.{IsFreeFor}
 use Rattle.strc_stages.specs.Collectors.{begun, sees}

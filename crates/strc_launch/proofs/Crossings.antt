@@ -7,12 +7,12 @@ use Rattle.strc_graph.specs.Tapes.{tape_nodes_from}
 use Rattle.strc_rings.specs.Parts.{is_within}
 use Rattle.strc_stage.specs.Plans.{PlanParts, transformed_of}
 use Rattle.strc_dataflow.specs.Ranges.{stage_within}
-use Rattle.strc_staged.specs.Beginnings.{crosses, crossings_from, entering_at, leaving_at}
-use Rattle.strc_staged.specs.Beginnings.{ends_in, begins_in, rooms_of, tapes_from}
-use Rattle.strc_staged.specs.Blocks.{raised}
-use Rattle.strc_staged.specs.Plans.{IsCut, running_of}
-use Rattle.strc_staged.specs.declared.crossing.Crossing.{Crossing}
-use Rattle.strc_staged.specs.declared.crossing.TapeOf.{TapeOf}
+use Rattle.strc_stages.specs.Beginnings.{crosses, crossings_from, entering_at, leaving_at}
+use Rattle.strc_stages.specs.Beginnings.{ends_in, begins_in, rooms_of, tapes_from}
+use Rattle.strc_stages.specs.CrossingBlocks.{raised}
+use Rattle.strc_stages.specs.Plans.{IsCut, running_of}
+use Rattle.strc_stages.specs.declared.crossing.Crossing.{Crossing}
+use Rattle.strc_stages.specs.declared.crossing.TapeOf.{TapeOf}
 use Rattle.strc_stages.specs.Blocks as blocks
 use Rattle.strc_stages.specs.Tapes.{AreAfter}
 use Rattle.strc_stages.specs.declared.stage.Block.{Block}

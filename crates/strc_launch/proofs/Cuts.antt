@@ -8,9 +8,9 @@ use Rattle.strc_stage.specs.Plans.{IsPlan, PlanParts, graph_of, transformed_of}
 use Rattle.strc_stage.specs.Bounds.{stage_bound, stage_bounds, stage_count}
 use Rattle.strc_stage.specs.Cuts.{IsBetweenGroups, IsBetweenUnits}
 use Rattle.strc_stage.proofs.Shares.{bounds_are_listed}
-use Rattle.strc_staged.specs.Runnings.{round_pushes}
-use Rattle.strc_staged.specs.Plans.{IsCut, running_of}
-use Rattle.strc_staged.proofs.Plans.{plan_bounds_are_a_cut}
+use Rattle.strc_stages.specs.Runnings.{round_pushes}
+use Rattle.strc_stages.specs.Plans.{IsCut, running_of}
+use Rattle.strc_stages.proofs.Plans.{plan_bounds_are_a_cut}
 use Rattle.strc_launch.specs.Bounds.{bound_in, last_of}
 use Rattle.strc_launch.specs.Links.{link_of, room_of}
 

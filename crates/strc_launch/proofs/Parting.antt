@@ -20,9 +20,9 @@ use Rattle.strc_rings.specs.Parts.{IsOutside, IsPartOf, IsPartCircuit}
 use Rattle.strc_rings.proofs.PartCircuits.{parts_are_part_circuits}
 use Rattle.strc_runner.specs.Parts.{IsPart}
 use Rattle.strc_stage.specs.Plans.{PlanParts, transformed_of}
-use Rattle.strc_staged.specs.Beginnings.{IsCircuitOf, IsMachineOf, is_own}
-use Rattle.strc_staged.specs.Runnings.{round_pushes}
-use Rattle.strc_staged.specs.Plans.{running_of}
+use Rattle.strc_stages.specs.Beginnings.{IsCircuitOf, IsMachineOf, is_own}
+use Rattle.strc_stages.specs.Runnings.{round_pushes}
+use Rattle.strc_stages.specs.Plans.{running_of}
 use Rattle.strc_launch.specs.Bounds.{bound_in, last_of}
 use Rattle.strc_launch.specs.Cuts.{IsCutAt}
 use Rattle.strc_launch.proofs.Ranges.{own_from, own_below, is_outside}

@@ -6,7 +6,7 @@ use Rattle.std.proofs.lemmas.Bool.{cases_order, cases_lt, eq-eqb, eqb-true, le-l
 use Rattle.strc_stage.specs.Plans.{PlanParts, transformed_of}
 use Rattle.strc_rings.specs.Parts.{IsOutside, is_within}
 use Rattle.strc_rings.proofs.PartLists.{within_true, within_false}
-use Rattle.strc_staged.specs.Plans.{IsCut}
+use Rattle.strc_stages.specs.Plans.{IsCut}
 use Rattle.strc_dataflow.specs.Ranges.{stage_within}
 use Rattle.strc_dataflow.proofs.Ranges.{bounds_from, within_at_most, within_from, within_below}
 

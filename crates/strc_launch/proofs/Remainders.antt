@@ -2,7 +2,7 @@
 use Rattle.std.proofs.Common.{◌≡◌, sym, ◌∙◌, subst, ℕ, suc, ◌≤◌, List, []}
 use Rattle.std.proofs.Common.{◌∷◌, ◌++◌, length, arith}
 use Rattle.strc_admissible.specs.Machine.{CircuitView, MachineView}
-use Rattle.strc_staged.specs.Plans.{IsCut}
+use Rattle.strc_stages.specs.Plans.{IsCut}
 use Rattle.strc_runner.specs.Parts.{IsRest}
 use Rattle.strc_stage.specs.Plans.{PlanParts, transformed_of}
 use Rattle.strc_stages.specs.declared.stage.StageParts.{StageParts}

@@ -23,14 +23,14 @@ use Rattle.strc_fiss.specs.Numbers.{is_dealt}
 use Rattle.strc_fiss.specs.Splitting.{code_at, copied, new_code, part_of}
 use Rattle.strc_fiss.specs.Ways.{fission_of}
 use Rattle.strc_fiss.specs.declared.split.Origin.{Origin}
-use Rattle.strc_split.specs.Laws.{new_graph}
-use Rattle.strc_split.proofs.NewNumbers.{code_there, number_of, old_there}
-use Rattle.strc_staged.specs.Dealt.{HaveRoom, IsDealt}
-use Rattle.strc_staged.specs.Origins.{AreOrigins}
-use Rattle.strc_staged.proofs.Numbers as dealing
+use Rattle.strc_stage.specs.SplitLaws.{new_graph}
+use Rattle.strc_stage.proofs.NewNumbers.{code_there, number_of, old_there}
+use Rattle.strc_stages.specs.Dealt.{HaveRoom, IsDealt}
+use Rattle.strc_stages.specs.Origins.{AreOrigins}
+use Rattle.strc_stages.proofs.Numbers as dealing
 use Rattle.strc_stage.specs.Plans.{IsPlan, PlanParts, graph_of}
-use Rattle.strc_staged.specs.Plans.{IsReadyFor}
-use Rattle.strc_staged.proofs.Plans.{graph_is, origins_are}
+use Rattle.strc_stages.specs.Plans.{IsReadyFor}
+use Rattle.strc_stages.proofs.Plans.{graph_is, origins_are}
 use Rattle.strc_launch.specs.Startups.{HasDealt, IsDealtOf, IsFaultOf, IsStartup}
 use Rattle.strc_launch.specs.declared.startup.Startup.{Startup}
 use Rattle.strc_launch.specs.declared.startup.Startup.TheVariants as startup

@@ -3,8 +3,8 @@ use Rattle.std.specs.Prelude.{◌≡◌, ℕ, suc, ◌≤◌, List, length, map}
 use Rattle.strc_graph.specs.Graphs.{IsGraph}
 use Rattle.strc_graph.specs.Tapes.{tape_nodes}
 use Rattle.strc_stage.specs.Plans.{IsPlan, PlanParts, transformed_of}
-use Rattle.strc_staged.specs.Runnings.{round_pushes}
-use Rattle.strc_staged.specs.Plans.{IsCut, running_of}
+use Rattle.strc_stages.specs.Runnings.{round_pushes}
+use Rattle.strc_stages.specs.Plans.{IsCut, running_of}
 use Rattle.strc_launch.specs.Bounds.{bound_in, last_of}
 use Rattle.strc_launch.specs.Links.{links_of}
 use Rattle.strc_launch.specs.declared.cutting.Cut.{Cut}

@@ -7,9 +7,9 @@ use Rattle.strc_fuse.specs.Units.{round_units}
 use Rattle.strc_core.specs.declared.stop as parcels
 use Rattle.strc_core.specs.Parcels.{Load}
 use Rattle.strc_stage.specs.Plans.{PlanParts, transformed_of}
-use Rattle.strc_staged.specs.Beginnings.{IsBeginning}
-use Rattle.strc_staged.specs.Plans.{IsCut, running_of}
-use Rattle.strc_staged.specs.Steps.{StageState, Gathered}
+use Rattle.strc_stages.specs.Beginnings.{IsBeginning}
+use Rattle.strc_stages.specs.Plans.{IsCut, running_of}
+use Rattle.strc_stages.specs.Steps.{StageState, Gathered}
 use Rattle.strc_stages.specs.Collectors.{sees}
 use Rattle.strc_stages.specs.Stages.{see}
 use Rattle.strc_launch.specs.Bounds.{bound_in, last_of}

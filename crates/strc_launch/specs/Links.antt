@@ -4,10 +4,10 @@ use Rattle.std.specs.Prelude.{if◌then◌else◌}
 use Rattle.strc_graph.specs.Graphs.{Channel}
 use Rattle.strc_stage.specs.Plans.{PlanParts, transformed_of}
 use Rattle.strc_dataflow.specs.Ranges.{stage_within}
-use Rattle.strc_staged.specs.Runnings.{round_pushes}
-use Rattle.strc_staged.specs.Plans.{running_of}
-use Rattle.strc_staged.specs.Blocks.{raised}
-use Rattle.strc_staged.specs.declared.crossing.Crossing.{Crossing}
+use Rattle.strc_stages.specs.Runnings.{round_pushes}
+use Rattle.strc_stages.specs.Plans.{running_of}
+use Rattle.strc_stages.specs.CrossingBlocks.{raised}
+use Rattle.strc_stages.specs.declared.crossing.Crossing.{Crossing}
 use Rattle.strc_stages.specs.declared.stage.Block.{Block}
 use Rattle.strc_launch.specs.Bounds.{bound_in, last_of}
 use Rattle.strc_launch.specs.declared.links.Link.{Link}

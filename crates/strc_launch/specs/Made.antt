@@ -4,8 +4,8 @@ use Rattle.strc_graph.specs.Tapes.{tape_nodes}
 use Rattle.strc_admissible.specs.Machine.{CircuitView, MachineView}
 use Rattle.strc_core.specs.States.{IsFresh}
 use Rattle.strc_stage.specs.Plans.{PlanParts, transformed_of}
-use Rattle.strc_staged.specs.Beginnings.{IsStageOf}
-use Rattle.strc_staged.specs.Plans.{running_of}
+use Rattle.strc_stages.specs.Beginnings.{IsStageOf}
+use Rattle.strc_stages.specs.Plans.{running_of}
 use Rattle.strc_stages.specs.Stages.{see, state_of}
 use Rattle.strc_stages.specs.declared.stage.StageParts.{StageParts}
 use Rattle.strc_launch.specs.Bounds.{bound_in, last_of}

@@ -6,13 +6,13 @@ use Rattle.strc_admissible.specs.Laws.{startup_order}
 use Rattle.strc_admissible.specs.Machine.{CircuitView, MachineView, Stopped, order_run}
 use Rattle.strc_rings.specs.Circuits.{circuit_view, IsReady}
 use Rattle.strc_rings.specs.declared.circuit.Circuit.{Circuit}
-use Rattle.strc_staged.specs.Dealt.{HaveRoom, IsDealt}
+use Rattle.strc_stages.specs.Dealt.{HaveRoom, IsDealt}
 use Rattle.strc_runner.specs.Running.{IsMachine, machine_view}
 use Rattle.strc_runner.specs.declared.machine.Machine.{Machine}
 use Rattle.strc_runner.specs.declared.machine.Stop.{Stop}
 use Rattle.strc_runner.specs.declared.machine.Stop.TheVariants as stops
 use Rattle.strc_stage.specs.Plans.{PlanParts, graph_of, transformed_of}
-use Rattle.strc_staged.specs.Plans.{HasStarted, IsReadyFor}
+use Rattle.strc_stages.specs.Plans.{HasStarted, IsReadyFor}
 use Rattle.strc_launch.specs.declared.startup.Startup.{Startup}
 use Rattle.strc_launch.specs.declared.startup.Startup.TheVariants as startup
 

@@ -1,7 +1,7 @@
 -- The tapes of a stage's nodes.
 use Rattle.std.specs.Prelude.{ℕ, suc, List, [], ◌∷◌, if◌then◌else◌}
 use Rattle.strc_rings.specs.Parts.{is_within}
-use Rattle.strc_staged.specs.declared.crossing.TapeOf.{TapeOf}
+use Rattle.strc_stages.specs.declared.crossing.TapeOf.{TapeOf}
 
 -- Of these nodes, which have a tape each, those from the first up to the next one; the first of
 -- these tapes has this number.

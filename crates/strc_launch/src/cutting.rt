@@ -8,7 +8,7 @@ ghost use Rattle.strc_launch.specs.Bounds.{bound_in, last_of};
 ghost use Rattle.strc_launch.specs.Cuts.{IsCutting};
 ghost use Rattle.strc_launch.specs.Launches.{bounds_of};
 ghost use Rattle.strc_launch.specs.Links as spec;
-ghost use Rattle.strc_staged.specs.Plans.{running_of};
+ghost use Rattle.strc_stages.specs.Plans.{running_of};
 
 use crate::counting::firing_counts;
 use crate::links::{Link, rooms};

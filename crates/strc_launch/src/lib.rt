@@ -1,12 +1,12 @@
 // Takes a plan, the program's input, and how many rounds and workers there are.
 // Gives what start-up comes to on this thread: its fault, or the machine of the graph after
 // fission, or the ring of stages that it leaves.
-// The theorem to rely on: `launch`, whose ring is the beginning of strc_staged's law, cut between
+// The theorem to rely on: `launch`, whose ring is the beginning of strc_stages's law, cut between
 // the groups that workers share.
-// Stands on strc_stages, whose stages and collector it makes, on strc_runner and strc_rings, whose
-// machine and circuit it parts, on strc_stage, whose plan it launches and whose bounds it parts it
-// at, and on strc_staged, by which start-up's state comes to the graph after fission, and whose
-// definitions say what a ring begins with.
+// Stands on strc_stages, whose stages and collector it makes, by which start-up's state comes to
+// the graph after fission, and whose definitions say what a ring begins with, on strc_runner and
+// strc_rings, whose machine and circuit it parts, and on strc_stage, whose plan it launches and
+// whose bounds it parts it at.
 #![tactic(auto)]
 
 mod counting;

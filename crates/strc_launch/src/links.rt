@@ -1,13 +1,12 @@
 // Channels by the stages that they join.
 
 ghost use Rattle.std.specs.Prelude.{◌≡◌, ◌<◌, ◌^◌, IfOk, eqb, map};
-ghost use Rattle.strc_staged.specs.Blocks.{raised};
+ghost use Rattle.strc_stages.specs.CrossingBlocks.{raised};
 ghost use Rattle.strc_launch.specs.Links.{is_crossing, is_picked, crossings_in, block_before};
 ghost use Rattle.strc_launch.specs.Links.{blocks_in, room_of};
 
 use std::alloc::{AllocError, Global};
-use strc_staged::Crossing;
-use strc_stages::Block;
+use strc_stages::{Block, Crossing};
 
 /// A channel: the stages where it begins and ends, and how many items its source pushes in a round.
 #[derive(Clone, Copy)]

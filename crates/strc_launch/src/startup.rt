@@ -18,7 +18,7 @@ use strc_runner::machine::{Machine, Stop};
 use strc_schedule::unit::Unit;
 use strc_semantics::fault::Cause;
 use strc_stage::plan::Plan;
-use strc_staged::dealing::deal_out;
+use strc_stages::dealing::deal_out;
 
 /// What start-up of a plan comes to: the machine of the graph after fission, ready for the first
 /// round, with its circuit; or a fault, which names a node of the graph before fission.

@@ -14,7 +14,7 @@ use strc_graph::graph::Node;
 use strc_graph::tapes::gives_words;
 use strc_rings::range::is_within;
 use strc_semantics::word::Word;
-use strc_staged::TapeOf;
+use strc_stages::TapeOf;
 
 /// The nodes that give words: one for each tape.
 pub(crate) fn tape_list(alloc: Global, nodes: &[Node]) -> Result<Vec<usize>, AllocError>

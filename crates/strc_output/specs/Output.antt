@@ -40,7 +40,7 @@ abbrev pub is_open : Option Word → Bool
 is_open None = false
 is_open (Some word) = not word.ends_line
 
--- the same of words
+-- whether words leave their last line open
 abbrev pub leaves_open : List Word → Bool
 leaves_open words = is_open (slice_get words (length words - 1))
 
@@ -92,7 +92,7 @@ abbrev pub tapes_text : (names : List (List ℕ)) → List Tape → List ℕ
 tapes_text names (tape ∷ []) = words_text tape.words.items
 tapes_text names tapes = tape_texts names 0 tapes
 
--- the same before a line
+-- the text of the tapes with its last line closed, before a line that follows
 abbrev pub closed_tapes : (names : List (List ℕ)) → List Tape → List ℕ
 closed_tapes names (tape ∷ []) = closed_text tape.words.items
 closed_tapes names tapes = tape_texts names 0 tapes

@@ -11,9 +11,9 @@ use Rattle.strc_refusal.specs.declared.outcome.Outcome.{Outcome}
 use Rattle.strc_refusal.specs.declared.run_refusal.RunRefusal.{RunRefusal}
 use Rattle.strc_sched.specs.Plain.{IsEnding}
 use Rattle.strc_stage.specs.Plans.{PlanParts, IsPlan, graph_of, transformed_of}
-use Rattle.strc_staged.specs.Plans.{ComesToAnswer, Suffices, need_of}
-use Rattle.strc_staged.proofs.PlanRuns.{plan_faults_answer, plan_rings_answer}
-use Rattle.strc_staged.proofs.PlanRuns.{plan_rounds_answer}
+use Rattle.strc_stages.specs.Plans.{ComesToAnswer, Suffices, need_of}
+use Rattle.strc_stages.proofs.PlanRuns.{plan_faults_answer, plan_rings_answer}
+use Rattle.strc_stages.proofs.PlanRuns.{plan_rounds_answer}
 use Rattle.strc_launch.specs.declared.ringing.Ring.{Ring}
 use Rattle.strc_launch.specs.Launches.{HasBegun, IsLaunch, bounds_of, start_of}
 use Rattle.strc_launch.specs.Startups.{HasEnded as HasLeft, HasFaulted}

@@ -13,8 +13,8 @@ use Rattle.strc_refusal.specs.declared.outcome.Round.TheVariants as round
 use Rattle.strc_semantics.specs.declared.fault.Cause.{Cause}
 use Rattle.strc_core.specs.declared.stop.Stop.{Stop}
 use Rattle.strc_core.specs.declared.stop.Stop.TheVariants as stops
-use Rattle.strc_staged.specs.Laws.{TellsOutcome}
-use Rattle.strc_staged.specs.Steps.{Gathered}
+use Rattle.strc_stages.specs.Laws.{TellsOutcome}
+use Rattle.strc_stages.specs.Steps.{Gathered}
 use Rattle.strc_parallel.specs.Answers.{Answer, IsTold}
 use Rattle.strc_parallel.specs.Telling.{tapes_by}
 use Rattle.strc_parallel.proofs.Tapes.{tapes_are}

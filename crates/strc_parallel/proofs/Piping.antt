@@ -5,13 +5,13 @@ use Rattle.strc_core.specs.Events.{is_over}
 use Rattle.strc_refusal.specs.declared.outcome.Outcome.{Outcome}
 use Rattle.strc_refusal.specs.declared.run_refusal.RunRefusal.{RunRefusal}
 use Rattle.strc_stage.specs.Plans.{PlanParts}
-use Rattle.strc_staged.specs.Plans.{need_of}
+use Rattle.strc_stages.specs.Plans.{need_of}
 use Rattle.strc_stages.specs.Seeing.{Ring}
 use Rattle.strc_stages.specs.Collectors.{sees}
 use Rattle.strc_stages.specs.declared.collector.CollectorParts.{CollectorParts}
 use Rattle.strc_stages.specs.declared.stage.StageParts.{StageParts}
 use Rattle.strc_core.proofs.Starting.{first_state}
-use Rattle.strc_staged.specs.Steps.{stage_work}
+use Rattle.strc_stages.specs.Steps.{stage_work}
 use Rattle.strc_stages.specs.Pipes.{IsStateOf}
 use Rattle.strc_launch.specs.Launches.{IsLaunch, start_of}
 use Rattle.strc_launch.specs.Startups.{HasFaulted}

@@ -13,10 +13,10 @@ use Rattle.strc_refusal.specs.declared.outcome.Outcome.{Outcome}
 use Rattle.strc_refusal.specs.declared.outcome.Outcome.TheVariants as outcome
 use Rattle.strc_refusal.specs.declared.outcome.Round.TheVariants as round
 use Rattle.strc_sched.specs.Plain.{AreTapesOf, IsEnding}
-use Rattle.strc_split.specs.Named.{old_node}
+use Rattle.strc_stage.specs.Named.{old_node}
 use Rattle.strc_stage.specs.Plans.{PlanParts, IsPlan, graph_of, transformed_of}
-use Rattle.strc_staged.specs.Names.{HaveSameTapes, IsNamedSo, IsOldFault, old_firing}
-use Rattle.strc_staged.proofs.PlanRuns.{plans_keep_tapes}
+use Rattle.strc_stages.specs.Names.{HaveSameTapes, IsNamedSo, IsOldFault, old_firing}
+use Rattle.strc_stages.proofs.PlanRuns.{plans_keep_tapes}
 use Rattle.strc_parallel.specs.Answers.{Answer, IsTold, stop_at}
 use Rattle.strc_parallel.specs.Naming.{AreRenamed, IsRenamed, renamed_tape}
 use Rattle.strc_parallel.proofs.Tapes.{same_tapes, tapes_listed, tapes_renamed}

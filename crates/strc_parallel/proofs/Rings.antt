@@ -8,7 +8,7 @@ use Rattle.strc_core.specs.Actors.{Step, Collects, Collector}
 use Rattle.strc_core.specs.States.{IsStart}
 use Rattle.strc_core.specs.declared.stop.Stop.{Stop}
 use Rattle.strc_stage.specs.Plans.{PlanParts}
-use Rattle.strc_staged.specs.Steps.{Gathered, stage_work}
+use Rattle.strc_stages.specs.Steps.{Gathered, stage_work}
 use Rattle.strc_stages.specs.Pipes.{Beginning, IsStateOf}
 use Rattle.strc_ring.specs.Cores as cores
 use Rattle.strc_ring.specs.States.{IsRing}

@@ -13,7 +13,7 @@ use Rattle.strc_refusal.specs.declared.outcome.Outcome.TheVariants as outcome
 use Rattle.strc_refusal.specs.declared.outcome.Round.TheVariants as round
 use Rattle.strc_sched.specs.Plain.{AreTapesOf}
 use Rattle.strc_stage.specs.Plans.{PlanParts, graph_of}
-use Rattle.strc_staged.specs.Plans.{IsPlanAnswer}
+use Rattle.strc_stages.specs.Plans.{IsPlanAnswer}
 
 -- What the stream equations answer.
 abbrev pub Answer : Type 0

@@ -6,9 +6,9 @@ use Rattle.strc_refusal.specs.declared.outcome.Tape.{Tape}
 use Rattle.strc_refusal.specs.declared.outcome.Outcome.{Outcome}
 use Rattle.strc_refusal.specs.declared.outcome.Outcome.TheVariants as outcome
 use Rattle.strc_refusal.specs.declared.outcome.Round.TheVariants as round
-use Rattle.strc_split.specs.Named.{old_node}
+use Rattle.strc_stage.specs.Named.{old_node}
 use Rattle.strc_stage.specs.Plans.{PlanParts}
-use Rattle.strc_staged.specs.Names.{old_firing}
+use Rattle.strc_stages.specs.Names.{old_firing}
 
 -- A tape is that of the node that its node stands for.
 abbrev pub renamed_tape : List Origin → TapeView → TapeView

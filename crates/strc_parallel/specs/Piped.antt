@@ -5,7 +5,7 @@ use Rattle.strc_core.specs.Events as events
 use Rattle.strc_core.specs.Events.{may}
 use Rattle.strc_core.specs.States.{first_core}
 use Rattle.strc_stage.specs.Plans.{PlanParts}
-use Rattle.strc_staged.specs.Steps.{stage_work}
+use Rattle.strc_stages.specs.Steps.{stage_work}
 use Rattle.strc_stages.specs.Pipes.{PipeView, IsStateOf}
 use Rattle.strc_stages.specs.Seeing.{Ring, core_of}
 use Rattle.strc_stages.specs.Collectors.{sees}

@@ -8,8 +8,8 @@ use Rattle.strc_refusal.specs.declared.run_refusal.RunRefusal.{RunRefusal}
 use Rattle.strc_refusal.specs.declared.run_refusal.RunRefusal.TheVariants as refused
 use Rattle.strc_core.specs.Events.{is_over}
 use Rattle.strc_core.specs.States.{IsStart}
-use Rattle.strc_staged.specs.Laws.{TellsOutcome}
-use Rattle.strc_staged.specs.Steps.{Gathered}
+use Rattle.strc_stages.specs.Laws.{TellsOutcome}
+use Rattle.strc_stages.specs.Steps.{Gathered}
 use Rattle.strc_stages.specs.Pipes.{Beginning, PipeView, IsStateOf, IsSomeState}
 use Rattle.strc_ring.specs.Cores.{core_of_parts}
 use Rattle.strc_ring.specs.declared.shapes.Parts.{Parts}

@@ -3,7 +3,7 @@ use Rattle.std.specs.Prelude.{ℕ, suc, List, [], ◌∷◌, if◌then◌else◌
 use Rattle.strc_semantics.specs.declared.word.Word.{Word}
 use Rattle.strc_graph.specs.Graphs.{NodeCode, gives_words}
 use Rattle.strc_refusal.specs.Tapes.{TapeView, tape}
-use Rattle.strc_staged.specs.Steps.{Gathered}
+use Rattle.strc_stages.specs.Steps.{Gathered}
 
 -- The tapes of these nodes, of which the first has this number; its list of words has that one.
 abbrev pub tapes_from : (node number : ℕ) → List NodeCode → List (List Word) → List TapeView

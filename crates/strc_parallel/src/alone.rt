@@ -7,7 +7,7 @@ ghost use Rattle.strc_admissible.specs.Machine.{rounds_run};
 ghost use Rattle.strc_rings.specs.Circuits.{circuit_view, IsReady};
 ghost use Rattle.strc_refusal.specs.declared.run_refusal.RunRefusal.TheVariants as refused;
 ghost use Rattle.strc_runner.specs.Running.{IsMachine, machine_view};
-ghost use Rattle.strc_staged.specs.Plans.{need_of};
+ghost use Rattle.strc_stages.specs.Plans.{need_of};
 ghost use Rattle.strc_parallel.specs.Answers.{AnswersPlan};
 ghost use Rattle.strc_parallel.specs.Alone.{HasRun};
 

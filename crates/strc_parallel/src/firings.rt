@@ -1,7 +1,7 @@
 // Which firings of nodes before fission the firings of their parts are.
 
 ghost use Rattle.std.specs.Prelude.{◌≡◌, ◌+◌, ◌*◌, ◌/◌, ◌%◌, ◌<◌, ◌^◌, slice_index};
-ghost use Rattle.strc_staged.specs.Names as names;
+ghost use Rattle.strc_stages.specs.Names as names;
 
 use crate::naming::old_node;
 use strc_fiss::split::Origin;

@@ -4,8 +4,8 @@
 // The theorem to rely on: `run_stages`, whose outcome is the answer of the stream equations, as
 // that of `run_alone` is.
 // Stands on strc_launch, which starts the plan up and cuts it into stages, on strc_sched, which
-// runs rounds on one thread, on strc_ring, whose workers hand parcels on, on strc_stages, in which
-// what workers leave goes on, and on strc_staged, whose laws say that both are the answer.
+// runs rounds on one thread, on strc_ring, whose workers hand parcels on, and on strc_stages,
+// in which what workers leave goes on, and whose laws say that both are the answer.
 #![tactic(auto)]
 
 pub mod alone;

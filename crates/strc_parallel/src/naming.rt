@@ -2,7 +2,7 @@
 
 ghost use Rattle.std.specs.Prelude.{◌≡◌, map};
 ghost use Rattle.strc_refusal.specs.Tapes.{tape_view};
-ghost use Rattle.strc_split.specs.Named as names;
+ghost use Rattle.strc_stage.specs.Named as names;
 ghost use Rattle.strc_parallel.specs.Naming.{AreRenamed, IsRenamed, renamed_tape};
 
 use crate::firings::old_firing;

@@ -5,7 +5,7 @@ ghost use Rattle.std.specs.Prelude.{IfOk, IfErr};
 ghost use Rattle.strc_refusal.specs.declared.run_refusal.RunRefusal.TheVariants as refused;
 ghost use Rattle.strc_core.specs.declared.event.Event.{Event};
 ghost use Rattle.strc_core.specs.States.{IsStart};
-ghost use Rattle.strc_staged.specs.Plans.{need_of};
+ghost use Rattle.strc_stages.specs.Plans.{need_of};
 ghost use Rattle.strc_stages.specs.Collectors.{sees};
 ghost use Rattle.strc_stages.specs.Stages.{see};
 ghost use Rattle.strc_stages.specs.Seeing as pipes;

@@ -2,7 +2,7 @@
 
 ghost use Rattle.std.specs.Prelude.{◌<◌, ◌≤◌, length, IfOk, IfErr};
 ghost use Rattle.strc_core.specs.States.{IsStart};
-ghost use Rattle.strc_staged.specs.Plans.{need_of};
+ghost use Rattle.strc_stages.specs.Plans.{need_of};
 ghost use Rattle.strc_parallel.specs.Answers.{AnswersPlan};
 ghost use Rattle.strc_launch.specs.Launches.{IsLaunch, start_of};
 ghost use Rattle.strc_parallel.specs.Running.{Drives, HasEnded, IsBegun, IsEndOf};

@@ -7,7 +7,7 @@ ghost use Rattle.strc_graph.specs.NodeView.{node_view};
 ghost use Rattle.strc_refusal.specs.Tapes.{tape, tape_view};
 ghost use Rattle.strc_refusal.specs.declared.run_refusal.RunRefusal.TheVariants as refused;
 ghost use Rattle.strc_dataflow.specs.Answer.{Outcome.StartupFault};
-ghost use Rattle.strc_staged.specs.Laws.{TellsOutcome};
+ghost use Rattle.strc_stages.specs.Laws.{TellsOutcome};
 ghost use Rattle.strc_parallel.specs.Answers.{Answer, IsTold, stop_at};
 ghost use Rattle.strc_parallel.specs.Running.{EndsSo};
 ghost use Rattle.strc_stages.specs.Collectors.{total_of};

@@ -5,7 +5,7 @@ use mathlib.Core.Logic.{inl}
 use Rattle.strc_core.specs.Actors.{Collects, collected, returned, or_else}
 use Rattle.strc_core.specs.declared.stop.Stop.{Stop}
 use Rattle.strc_core.specs.Parcels.{Load, ParcelView, parcel, emptied}
-use Rattle.strc_staged.specs.Steps.{stage_work}
+use Rattle.strc_stages.specs.Steps.{stage_work}
 use Rattle.strc_parallel_tests.specs.Toys.{counter, counted, is_done}
 
 module _ (rounds taken gathered : ℕ) (load : Load) (last : Bool) where

@@ -6,7 +6,7 @@ use Rattle.strc_core.specs.Actors.{Step, next, made, is_passing, is_marked, stop
 use Rattle.strc_core.specs.declared.stop.Stop.{Stop}
 use Rattle.strc_core.specs.declared.stop.Stop.TheVariants as stop
 use Rattle.strc_core.specs.Parcels.{Load, ParcelView, parcel, emptied}
-use Rattle.strc_staged.specs.Steps.{stage_work}
+use Rattle.strc_stages.specs.Steps.{stage_work}
 use Rattle.strc_parallel_tests.specs.Toys.{idle_stage, idle_stop, idle_mark, is_done, refusal}
 
 refusal_is : (taken refused : ℕ) → (refusal taken refused ≡ None)

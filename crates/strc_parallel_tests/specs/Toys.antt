@@ -5,7 +5,7 @@ use Rattle.strc_core.specs.Actors.{Stage, Collector, or_else}
 use Rattle.strc_core.specs.declared.stop.Stop.{Stop}
 use Rattle.strc_core.specs.declared.stop.Stop.TheVariants as stop
 use Rattle.strc_core.specs.Parcels.{ParcelView}
-use Rattle.strc_staged.specs.Steps.{StageState, Gathered}
+use Rattle.strc_stages.specs.Steps.{StageState, Gathered}
 
 -- A stage without a machine.
 abbrev pub idle_state : StageState

@@ -1,7 +1,7 @@
 -- What the core sees of toys.
 use Rattle.strc_core.specs.Actors.{Stage, Collector}
 use Rattle.strc_core.specs.declared.stop.Stop.{Stop}
-use Rattle.strc_staged.specs.Steps.{StageState, Gathered}
+use Rattle.strc_stages.specs.Steps.{StageState, Gathered}
 use Rattle.strc_parallel_tests.specs.declared.idle_stages.Idle.{Idle}
 use Rattle.strc_parallel_tests.specs.declared.collectors.Counter.{Counter}
 use Rattle.strc_parallel_tests.specs.Toys.{idle_stage, counter}

@@ -57,7 +57,7 @@ fn returned(given: Parcel) -> Parcel
 impl Actor for Counter {
     ghost use Rattle.std.specs.Prelude.{is_some, true};
     ghost use Rattle.strc_core.specs.Actors.{Collects};
-    ghost use Rattle.strc_staged.specs.Steps.{stage_work};
+    ghost use Rattle.strc_stages.specs.Steps.{stage_work};
     ghost use Rattle.strc_parallel_tests.specs.Toys.{is_done};
     ghost use Rattle.strc_parallel_tests.specs.Views.{counter_view};
 

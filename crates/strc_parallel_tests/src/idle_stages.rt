@@ -74,7 +74,7 @@ fn handed_on(given: Parcel, passes: bool, stop: Option<Stop>, last: bool) -> Par
 impl Actor for Idle {
     ghost use Rattle.std.specs.Prelude.{◌≡◌, is_some, true};
     ghost use Rattle.strc_core.specs.Actors.{Step};
-    ghost use Rattle.strc_staged.specs.Steps.{stage_work};
+    ghost use Rattle.strc_stages.specs.Steps.{stage_work};
     ghost use Rattle.strc_parallel_tests.specs.Toys.{is_done};
     ghost use Rattle.strc_parallel_tests.specs.Views.{idle_view};
 

@@ -76,7 +76,7 @@ const ROW_CASES: [(u32, &str); 5] = [
     (1000, "1*0.1.0.1.0.1.2.2.3.3 : 1 6 2"),
 ];
 
-/// The same of the graph with a loop: its nodes stay as they are.
+/// Rows of the graph with a loop, whose nodes stay as they are.
 const LOOP_CASES: [(u32, &str); 3] = [
     (0, "1*0 1*1 1*2 2*3 1*4 1*5 1*6 : 1 1 2 2 1 1 1"),
     (2, "1*0.1 1*2 2*3 1*4 1*5 1*6 : 1 1 2 2 1 1 1"),

@@ -102,7 +102,7 @@ pub(crate) fn graph_with(
     Ok(Graph::new(nodes, channels, outer_loops))
 }
 
-/// The same with so many items on the last channel.
+/// The graph of these nodes and channels, with so many items on the last channel.
 pub(crate) fn graph_of(
     rt: &impl Abort,
     alloc: Global,

@@ -63,7 +63,7 @@ impl Refused {
         Refused::at(refusal, Site::unknown().or_at(Some(place)))
     }
 
-    /// The same of a program whose main stream is known.
+    /// The refusal, of a program whose main stream is known.
     pub fn of_stream(self, stream: Stream) -> Refused
         ensures { result ≡ self }
     {

@@ -32,7 +32,7 @@ pub fn run_ring<S: Actor + Send, C: Actor + Send, G: Gate<S>, R: Threads + Wait 
     run_ring_on(rt, alloc, start, gate, &Deep)
 }
 
-/// The same, on stacks of these sizes.
+/// A ring that runs as by `run_ring`, with threads on stacks of these sizes.
 pub fn run_ring_on<
     S: Actor + Send,
     C: Actor + Send,

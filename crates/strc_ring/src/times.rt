@@ -21,7 +21,7 @@ pub struct StageTime {
     pub nanoseconds: u64,
 }
 
-// The same, as the stage's worker adds to it.
+// A stage's steps and their time, as its worker adds to them.
 #[derive(Drop)]
 struct Tally {
     steps: AtomicU64,

@@ -135,7 +135,8 @@ fn give_across(rings: &mut [Ring], source: usize, target: usize, start: usize, c
     }
 }
 
-/// The same between two rings, piece by piece as the one has them.
+/// So many items of one ring, from a place on, join another one, piece by piece as the first has
+/// them.
 fn pour_part(source: &Ring, target: &mut Ring, start: usize, count: usize)
     ensures { target.new ≡ spec.extended (take count (drop start source.now.items)) target.old }
 {

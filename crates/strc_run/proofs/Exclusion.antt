@@ -19,7 +19,7 @@ use Rattle.strc_schedule.specs.Schedules.{ScheduleParts, IsSchedule}
 use Rattle.strc_statements.specs.declared.error.ElabError.{ElabError}
 use Rattle.strc_fiss.specs.Fissions.{IsTransformed}
 use Rattle.strc_fiss.specs.Ways.{fission_of}
-use Rattle.strc_split.specs.Refusals.{PassesNoLimit, TransformedOrRefused}
+use Rattle.strc_stage.specs.Refusals.{PassesNoLimit, TransformedOrRefused}
 use Rattle.strc_stage.specs.Laws.{OneStartup, ScheduledOrRefused}
 use Rattle.strc_stage.specs.Plans.{HasSchedule, HasStartup, PlanParts, graph_of}
 use Rattle.strc_refusal.specs.declared.refusal.Refusal.{Refusal}

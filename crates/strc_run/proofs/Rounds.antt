@@ -10,7 +10,7 @@ use Rattle.strc_refusal.specs.declared.outcome.Outcome.{Outcome}
 use Rattle.strc_refusal.specs.declared.run_refusal.RunRefusal.{RunRefusal}
 use Rattle.strc_refusal.specs.declared.run_refusal.RunRefusal.TheVariants as refused
 use Rattle.strc_stage.specs.Plans.{PlanParts, graph_of}
-use Rattle.strc_staged.specs.Plans.{need_of}
+use Rattle.strc_stages.specs.Plans.{need_of}
 use Rattle.strc_parallel.specs.Running.{LacksMeans}
 use Rattle.strc_run.specs.Rounds.{AreWorkers, IsRunOf, IsUnrun, IsWorkedRefusal, is_bounded}
 

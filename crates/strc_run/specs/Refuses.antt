@@ -162,7 +162,7 @@ IsTrueOf text choice (refusal.Inconsistent channel) =
     Refuses text choice (refusal.Inconsistent channel) × HasNoBalance text choice
 IsTrueOf text choice refused = Refuses text choice refused
 
--- the same before there is a program
+-- a refusal that was answered before there is a program is the text's
 abbrev pub IsReadRefusal : List ℕ → Refusal → Type 0
 IsReadRefusal text refusal.NoMemory = Unit {0}
 IsReadRefusal text refused = IsUnreadable text refused

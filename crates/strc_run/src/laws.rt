@@ -3,8 +3,8 @@
 ghost use Rattle.strc_run.specs.Laws.{AcceptedOrRefused, OneStream, PlansAnswerTexts};
 
 use strc_parse::laws::{one_program, spelled_texts_are_readable};
-use strc_split::laws::transformed_or_refused;
 use strc_stage::laws::{one_startup, scheduled_or_refused};
+use strc_stage::split_laws::transformed_or_refused;
 use strc_stream::laws::one_flat_graph;
 
 /// No text is both accepted and refused.

@@ -2,7 +2,7 @@
 
 ghost use Rattle.std.specs.Prelude.{◌≡◌, ◌≤◌, None, IfErr, IfOk, length};
 ghost use Rattle.strc_parallel.specs.Answers.{AnswersPlan};
-ghost use Rattle.strc_staged.specs.Plans.{need_of};
+ghost use Rattle.strc_stages.specs.Plans.{need_of};
 ghost use Rattle.strc_run.specs.Rounds.{AreWorkers, IsRunOf, IsWorkedRefusal, plan_reads};
 
 use std::alloc::Global;

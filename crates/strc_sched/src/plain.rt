@@ -73,7 +73,7 @@ pub fn input_needed(graph: &Graph, schedule: &Schedule, rounds: u32) -> u64
     items_needed(graph.nodes(), schedule, rounds)
 }
 
-/// The same, over the circuit of the graph.
+/// The outcome of start-up and so many rounds, over the circuit of the graph.
 fn run_circuit(
     alloc: Global,
     graph: &Graph,

@@ -27,7 +27,8 @@ pub fn rounds_served(graph: &Graph, schedule: &Schedule, got: u64) -> Option<u32
     }
 }
 
-/// The same, where start-up and each round read so many items.
+/// The greatest number of rounds that an input serves, where start-up and each round read so many
+/// items.
 fn served(before: u64, each: u64, got: u64) -> Option<u32>
     ensures { IsServed (reads_by_round before each) got result }
 {

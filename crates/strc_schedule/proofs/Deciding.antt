@@ -30,7 +30,7 @@ finds_an_order channels counts firings left order is sums stuck some =
 
 -- the next unit is one
 
-same_node : (channels : List ChannelRates) (counts left : Firings) (m n v w : ℕ)
+pub same_node : (channels : List ChannelRates) (counts left : Firings) (m n v w : ℕ)
     → IsNext channels counts left m v → IsNext channels counts left n w → v ≤ w
 same_node channels counts left m n v w one two =
     elim (cases_lt w v) [
@@ -39,7 +39,7 @@ same_node channels counts left m n v w one two =
       | inr most ↦ omega (arith, most)
     ]
 
-same_turns : (channels : List ChannelRates) (counts left : Firings) (m n v : ℕ)
+pub same_turns : (channels : List ChannelRates) (counts left : Firings) (m n v : ℕ)
     → IsNext channels counts left m v → IsNext channels counts left n v → m ≤ n
 same_turns channels counts left m n v one two =
     elim (cases_lt n m) [
@@ -48,7 +48,7 @@ same_turns channels counts left m n v one two =
     ]
 
 -- a unit takes firings, so that none are left where there is no unit
-fires : (channels : List ChannelRates) (counts left : Firings) (unit : units.Unit.Unit)
+pub fires : (channels : List ChannelRates) (counts left : Firings) (unit : units.Unit.Unit)
     (rest : List units.Unit.Unit) (node : ℕ) → unit.nodes.items ≡ node ∷ []
     → IsNext channels counts left unit.turns node
     → 0 < firing_count (firings_of (unit ∷ rest)) node

@@ -30,54 +30,46 @@ fill_other rates counts turns node apart =
     (omega arith) in
     omega (arith, ap (supply rates) s, p)
 
--- after the first of some firings each one adds, or takes, the same
+-- after the first of some firings each one adds, or takes, as many: of a count that grows by a rate
+-- with each firing of an end
+moved_on : (moved : ℕ → ℕ) (rate : ℕ)
+    → ((n more : ℕ) → moved (suc (n + more)) ≡ moved (suc n) + rate * more)
+    → (end : ℕ) (counts : Firings) (more node : ℕ)
+    → moved (fired counts (suc more) node end)
+    ≡ moved (fired counts 1 node end) + rate * turns_of 1 node end * more
+moved_on moved rate grows end counts more node =
+    elim (cases_eq end node) [
+      | inl same ↦
+          let n = counts end in
+          let o = turns_same 1 node end same in
+          let e : fired counts (suc more) node end ≡ suc (n + more) =
+          omega (arith, turns_same (suc more) node end same) in
+          let f : fired counts 1 node end ≡ suc n = omega (arith, o) in
+          let p : rate * turns_of 1 node end * more ≡ rate * more =
+          ap (λ t. rate * t * more) o ∙ omega arith in
+          omega (arith, ap moved e, ap moved f, p, grows n more)
+      | inr apart ↦
+          let o = turns_other 1 node end apart in
+          let e : fired counts (suc more) node end ≡ fired counts 1 node end =
+          omega (arith, turns_other (suc more) node end apart, o) in
+          let p : rate * turns_of 1 node end * more ≡ 0 =
+          ap (λ t. rate * t * more) o ∙ omega arith in
+          omega (arith, ap moved e, p)
+    ]
+
 supply_on : (rates : ChannelRates) (counts : Firings) (more node : ℕ)
     → supply rates (fired counts (suc more) node rates.source)
     ≡ supply rates (fired counts 1 node rates.source)
     + rates.push * turns_of 1 node rates.source * more
-supply_on rates counts more node =
-    elim (cases_eq rates.source node) [
-      | inl same ↦
-          let n = counts rates.source in
-          let o = turns_same 1 node rates.source same in
-          let e : fired counts (suc more) node rates.source ≡ suc (n + more) =
-          omega (arith, turns_same (suc more) node rates.source same) in
-          let f : fired counts 1 node rates.source ≡ suc n = omega (arith, o) in
-          let p : rates.push * turns_of 1 node rates.source * more ≡ rates.push * more =
-          ap (λ t. rates.push * t * more) o ∙ omega arith in
-          omega (arith, ap (supply rates) e, ap (supply rates) f, p)
-      | inr apart ↦
-          let o = turns_other 1 node rates.source apart in
-          let e : fired counts (suc more) node rates.source ≡ fired counts 1 node rates.source =
-          omega (arith, turns_other (suc more) node rates.source apart, o) in
-          let p : rates.push * turns_of 1 node rates.source * more ≡ 0 =
-          ap (λ t. rates.push * t * more) o ∙ omega arith in
-          omega (arith, ap (supply rates) e, p)
-    ]
+supply_on rates =
+    moved_on (supply rates) rates.push (λ n more. omega arith) rates.source
 
 popped_on : (rates : ChannelRates) (counts : Firings) (more node : ℕ)
     → popped rates (fired counts (suc more) node rates.target)
     ≡ popped rates (fired counts 1 node rates.target)
     + rates.pop * turns_of 1 node rates.target * more
-popped_on rates counts more node =
-    elim (cases_eq rates.target node) [
-      | inl same ↦
-          let n = counts rates.target in
-          let o = turns_same 1 node rates.target same in
-          let e : fired counts (suc more) node rates.target ≡ suc (n + more) =
-          omega (arith, turns_same (suc more) node rates.target same) in
-          let f : fired counts 1 node rates.target ≡ suc n = omega (arith, o) in
-          let p : rates.pop * turns_of 1 node rates.target * more ≡ rates.pop * more =
-          ap (λ t. rates.pop * t * more) o ∙ omega arith in
-          omega (arith, ap (popped rates) e, ap (popped rates) f, p)
-      | inr apart ↦
-          let o = turns_other 1 node rates.target apart in
-          let e : fired counts (suc more) node rates.target ≡ fired counts 1 node rates.target =
-          omega (arith, turns_other (suc more) node rates.target apart, o) in
-          let p : rates.pop * turns_of 1 node rates.target * more ≡ 0 =
-          ap (λ t. rates.pop * t * more) o ∙ omega arith in
-          omega (arith, ap (popped rates) e, p)
-    ]
+popped_on rates =
+    moved_on (popped rates) rates.pop (λ n more. omega arith) rates.target
 
 -- what moves one way has its greatest value at an end
 drift : (s q a b few rest : ℕ)

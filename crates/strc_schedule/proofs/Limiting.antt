@@ -15,7 +15,7 @@ use Rattle.strc_schedule.proofs.Networks.{nothing}
 module _ (channels : List ChannelRates) (startup round : Firings) (schedule : ScheduleParts)
     (is : IsSchedule channels startup round schedule) where
   -- the sizes that greedy orders need are those of the schedule
-  same_size : (channel : ℕ) (past : PassesLimit channels startup round channel)
+  pub same_size : (channel : ℕ) (past : PassesLimit channels startup round channel)
       (rates : ChannelRates)
       → buffer_size startup schedule.startup schedule.round rates
       ≡ buffer_size startup past.startup_units past.round_units rates

@@ -12,30 +12,24 @@ use Rattle.strc_semantics.specs.Filters.{push_rate, pop_rate, item_count, window
 use Rattle.strc_graph.specs.Graphs as graphs
 use Rattle.strc_graph.specs.Graphs.{NodeCode, Channel}
 use Rattle.strc_graph.specs.Rates.{window_at, pops_at, pushes_at, rate_at_0}
+use Rattle.strc_graph.proofs.Works.{no_rates}
 use Rattle.strc_balance.specs.Balance.{count_at}
 use Rattle.strc_balance.specs.Rates.{fires_by_rounds, pops_by_work, equation_of, IsRated}
 use Rattle.strc_startup.specs.Rates.{has_prework, first_count, rates_of_channel}
 use Rattle.strc_schedule.specs.Rounds.{IsPastPrework, PrimedCountsArePastPrework}
 
 -- where there is no prework, its rates are those of work
-no_rates : (members : List tree.Member) → is_some (prework_block members) ≡ false
+work_rates_there : (members : List tree.Member) → is_some (prework_block members) ≡ false
     → unwrap_or (prework_rates members) (work_rates members) ≡ work_rates members
-no_rates members none = ap (λ r. unwrap_or r (work_rates members)) (nowhere members none)
-  where
-    nowhere : (members : List tree.Member) → is_some (prework_block members) ≡ false
-        → prework_rates members ≡ None
-    nowhere [] none = refl
-    nowhere (tree.Fields kind variables ∷ rest) none = nowhere rest none
-    nowhere (tree.Init block ∷ rest) none = nowhere rest none
-    nowhere (tree.Prework rates block ∷ rest) none = absurd (true≢false none)
-    nowhere (tree.Work rates block ∷ rest) none = nowhere rest none
+work_rates_there members none =
+    ap (λ r. unwrap_or r (work_rates members)) (no_rates members none)
 
 -- then the first firing is like all others
 
 pushes_alike : (node : NodeCode) (port : ℕ) → has_prework node ≡ false
     → pushes_at node 0 port ≡ pushes_at node 1 port
 pushes_alike (graphs.Filter name filter) port none =
-    ap (λ r. rate_at_0 (item_count (push_rate r)) port) (no_rates filter.members none)
+    ap (λ r. rate_at_0 (item_count (push_rate r)) port) (work_rates_there filter.members none)
 pushes_alike graphs.Identity port none = refl
 pushes_alike (graphs.FileReader text) port none = refl
 pushes_alike (graphs.FileWriter text) port none = refl
@@ -48,7 +42,7 @@ pushes_alike (graphs.Gather fission) port none = refl
 pops_alike : (node : NodeCode) (port : ℕ) → has_prework node ≡ false
     → fires_by_rounds node ≡ false → pops_at node 0 port ≡ pops_at node 1 port
 pops_alike (graphs.Filter name filter) port none each =
-    ap (λ r. rate_at_0 (item_count (pop_rate r)) port) (no_rates filter.members none)
+    ap (λ r. rate_at_0 (item_count (pop_rate r)) port) (work_rates_there filter.members none)
 pops_alike graphs.Identity port none each = refl
 pops_alike (graphs.FileReader text) port none each = refl
 pops_alike (graphs.FileWriter text) port none each = refl
@@ -61,7 +55,7 @@ pops_alike (graphs.Gather fission) port none each = refl
 windows_alike : (node : NodeCode) (port : ℕ) → has_prework node ≡ false
     → window_at node 0 port ≡ window_at node 1 port
 windows_alike (graphs.Filter name filter) port none =
-    ap (λ r. rate_at_0 (window_size r) port) (no_rates filter.members none)
+    ap (λ r. rate_at_0 (window_size r) port) (work_rates_there filter.members none)
 windows_alike graphs.Identity port none = refl
 windows_alike (graphs.FileReader text) port none = refl
 windows_alike (graphs.FileWriter text) port none = refl

@@ -97,7 +97,7 @@ more_past_prework : (a b : ℕ) (P : Type 0) → (0 < a) ⊎ P → (0 < a + b) �
 more_past_prework a b P (inl some) = inl (omega (arith, some))
 more_past_prework a b P (inr same) = inr same
 
-past_prework_after : (counts : Firings) (node : ℕ) (rates : ChannelRates)
+pub past_prework_after : (counts : Firings) (node : ℕ) (rates : ChannelRates)
     → IsPastPrework counts rates
     → IsPastPrework (fired counts 1 node) rates
 past_prework_after counts node rates past_prework = record {

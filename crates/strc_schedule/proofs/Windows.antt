@@ -147,7 +147,7 @@ module _ (rates : ChannelRates) (counts : Firings) (has : HasWindow counts rates
       past : (n d : ℕ) → 0 < d → n < d * (n / d + 1)
       past n d some = let e = div-add-mod' n d in let m = mod-lt n some in omega (arith, e, m)
 
--- the same of numbers that are these
+-- how often a window is found, by numbers that are those of the rates and counts
 pub finds_by : (rates : ChannelRates) (counts : Firings) (s e g earlier : ℕ)
     → HasWindow counts rates → seen rates counts ≡ s → come rates counts ≡ e
     → rates.push * own rates counts ≡ g → s ≤ e → g < rates.pop

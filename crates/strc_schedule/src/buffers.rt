@@ -180,7 +180,7 @@ fn narrowed_peaks(alloc: Global, peaks: &Peaks) -> Result<Buffers, AllocError>
     })
 }
 
-/// The same of one list.
+/// Numbers of one list that are not past the limit of sizes, in 32 bits.
 pub(crate) fn narrowed(alloc: Global, numbers: &[u128]) -> Result<Vec<u32>, AllocError>
     requires { All (λ number. number ≤ size_limit) numbers.now }
     ensures { IfOk result (λ narrowed. narrowed.items ≡ numbers.now) }

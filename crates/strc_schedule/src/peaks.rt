@@ -44,7 +44,8 @@ pub(crate) fn after_units(
     Some((now, raised))
 }
 
-/// Raises the greatest numbers of items to those while units fire, and counts their firings.
+/// Raises the peaks, the greatest numbers of items, to those while units fire, and counts their
+/// firings.
 fn raise_units(
     network: &Network,
     units: &[Unit],
@@ -66,7 +67,8 @@ fn raise_units(
     Some(())
 }
 
-/// The same of one unit. One of a single node fires at once, however many its turns are.
+/// Raises the peaks to those while one unit fires, and counts its firings. One of a single node
+/// fires at once, however many its iterations are.
 fn raise_unit(network: &Network, unit: &Unit, counts: &mut [u128], peaks: &mut [u128]) -> Option<()>
     requires each { length counts.old ≡ size_of network.now }
     requires peaks { length peaks.old ≡ length network.now.channels }
@@ -85,7 +87,7 @@ fn raise_unit(network: &Network, unit: &Unit, counts: &mut [u128], peaks: &mut [
     }
 }
 
-/// The same of a list of nodes so many times, one firing after another.
+/// Raises the peaks to those while a list of nodes fires so many times, one firing after another.
 fn raise_by_passes(
     network: &Network,
     turns: u32,
@@ -108,7 +110,7 @@ fn raise_by_passes(
     Some(())
 }
 
-/// The same of a list of nodes.
+/// Raises the peaks to those while each of a list of nodes fires once.
 fn raise_by_list(
     network: &Network,
     nodes: &[u32],
@@ -129,7 +131,7 @@ fn raise_by_list(
     Some(())
 }
 
-/// The same of so many firings of a node.
+/// Raises the peaks to those while a node fires so often.
 ///
 /// From the second on, each of them adds as many items to a channel as the one before, or takes as
 /// many: so there are most after the first or after the last one.

@@ -67,7 +67,7 @@ pub fn schedule(
     schedule_of(alloc, graph, startup.as_slice(), round.as_slice())
 }
 
-/// The same of plain counts.
+/// The schedule of a graph's rates and plain counts.
 fn schedule_of(
     alloc: Global,
     graph: &Graph,

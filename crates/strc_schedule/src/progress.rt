@@ -77,7 +77,7 @@ impl Progress {
         Ok(progress)
     }
 
-    /// The same before any node was looked at.
+    /// So many firings to come from these counts, before any node was looked at.
     fn unseen(
         alloc: Global,
         size: usize,
@@ -134,7 +134,8 @@ impl Progress {
         Ok(Some((turns, node as u32)))
     }
 
-    /// The same, but for what becomes known of the nodes at which that node's channels end.
+    /// Fires the lowest node that can fire, and leaves open what becomes known of the nodes at
+    /// which its channels end.
     fn fire_lowest(&mut self, network: &Network) -> Option<(u32, usize)>
         requires { IsProgress network.now self.old }
         ensures next { IfSome result (λ unit.

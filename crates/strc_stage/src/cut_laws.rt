@@ -1,7 +1,7 @@
 // Takes: a graph, the units of its round, and a number of workers.
 // Gives: bounds of stages between the groups of its nodes, outermost feedback loops and units of
 // the round, and laws on such bounds, each the contract of a public function with an empty body.
-// The theorem to rely on: `stage_bounds`: its bounds are those of the definition; strc_staged
+// The theorem to rely on: `stage_bounds`: its bounds are those of the definition; strc_stages
 // shows that a round that is cut there is staged.
 
 ghost use Rattle.strc_stage.specs.CutLaws.{BoundsAreListed, BoundsAreOfGroups, ChannelsGoForward};

@@ -152,7 +152,8 @@ impl Plan {
         &self.shared().startup_counts
     }
 
-    /// How often each node of `graph` fires in a round: the least counts that balance it.
+    /// How often each node of `graph` fires in a round: its repetition vector, the least counts
+    /// that balance it.
     pub fn round_counts(&self) -> &Counts
         ensures counts { result.now ≡ self.now.round_counts }
         ensures least { HasRound (graph_of self.now) result.now }
@@ -215,7 +216,8 @@ impl Plan {
         self.shared().split.origins()
     }
 
-    /// The same for a node of this number. `None` where there is no such node.
+    /// The node of `graph` whose firings the node of this number does, and from which one on in a
+    /// round. `None` where there is no such node.
     pub fn origin(&self, node: u32) -> Option<Origin>
         ensures { result ≡ slice_get self.now.split.origins node }
     {

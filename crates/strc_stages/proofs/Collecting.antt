@@ -5,7 +5,7 @@ use Rattle.std.proofs.Common.{is_some, inl, inr}
 use Rattle.strc_core.specs.Actors.{Collector, MayStop, collected, returned, or_else}
 use Rattle.strc_core.specs.declared.stop.Stop.{Stop}
 use Rattle.strc_core.specs.Parcels.{Load, ParcelView, parcel, emptied}
-use Rattle.strc_staged.specs.Steps.{Gathered, stage_work, with_round}
+use Rattle.strc_stages.specs.Steps.{Gathered, stage_work, with_round}
 
 -- A stopped parcel goes back as it is.
 pub stopped_back : (load : Load) (own : Option Stop) (last : Bool) (stop : Option Stop)

@@ -4,8 +4,8 @@ use Rattle.std.proofs.Common.{◌∷◌}
 use Rattle.std.proofs.Common.{◌++◌, set, get_or, take, length, replicate, arith, append_assoc}
 use Rattle.std.proofs.lemmas.List.{length-set, length-append}
 use Rattle.strc_core.specs.Parcels.{Load, block_at, with_block, filled, emptied}
-use Rattle.strc_staged.specs.declared.crossing.Crossing.{Crossing}
-use Rattle.strc_staged.specs.Steps.{load_entered}
+use Rattle.strc_stages.specs.declared.crossing.Crossing.{Crossing}
+use Rattle.strc_stages.specs.Steps.{load_entered}
 
 take_two : (room : ℕ) (front back : List ℤ)
     → take room front ++ take (room - length front) back ≡ take room (front ++ back)

@@ -7,7 +7,7 @@ use Rattle.std.proofs.Math.Seq.{drop-nil, map-set_same}
 use Rattle.std.specs.Global.{Vec}
 use Rattle.strc_semantics.specs.declared.word.Word.{Word}
 use Rattle.strc_core.specs.Parcels.{Load, words_at}
-use Rattle.strc_staged.specs.Steps.{words_joined}
+use Rattle.strc_stages.specs.Steps.{words_joined}
 use Rattle.strc_stages.specs.Gathering.{HasRoom, HaveRoom}
 
 none_joined : (words : List (List Word)) → words_joined words [] ≡ words

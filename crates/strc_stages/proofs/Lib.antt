@@ -12,3 +12,47 @@ mod Moving
 mod Happening
 mod Beginning
 mod Advancing
+pub mod Folds
+pub mod Lifting
+pub mod Ports
+pub mod OwnSteps
+pub mod OwnRuns
+pub mod Crossings
+pub mod Passing
+pub mod Setting
+pub mod Held
+pub mod OneStep
+pub mod Follows
+pub mod Links
+pub mod Fresh
+pub mod Totals
+pub mod Chain
+pub mod Alike
+pub mod ParcelsFit
+pub mod Rows
+pub mod Room
+pub mod Endings
+pub mod OneMachine
+pub mod Own
+pub mod Running
+pub mod SplitRingsRoom
+pub mod Rings
+pub mod Started
+pub mod Plans
+pub mod Tapes
+pub mod Naming
+pub mod PlanRuns
+pub mod NewLoops
+pub mod Places
+pub mod NewForward
+pub mod SplitUnits
+pub mod Staged
+pub mod SplitRingsRows
+pub mod Nodes
+pub mod FilledChannels
+pub mod HandedOn
+pub mod Numbers
+pub mod Waiting
+pub mod Holding
+pub mod DealtRoom
+pub mod DealtRows

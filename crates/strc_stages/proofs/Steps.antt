@@ -8,8 +8,8 @@ use Rattle.strc_core.specs.Actors.{or_else}
 use Rattle.strc_core.specs.declared.stop.Stop.{Stop}
 use Rattle.strc_core.specs.declared.stop.Stop.TheVariants.{NoMemory}
 use Rattle.strc_core.specs.Parcels.{Load, ParcelView, parcel, emptied}
-use Rattle.strc_staged.specs.Steps.{StageState, stage_work, with_machine, due_stop_of}
-use Rattle.strc_staged.specs.Steps.{state_of_step, load_of_step}
+use Rattle.strc_stages.specs.Steps.{StageState, stage_work, with_machine, due_stop_of}
+use Rattle.strc_stages.specs.Steps.{state_of_step, load_of_step}
 use Rattle.strc_admissible.specs.Machine.{MachineView}
 use Rattle.strc_stages.specs.Stepping.{with_stop, RunsTo}
 

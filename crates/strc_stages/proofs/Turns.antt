@@ -9,10 +9,10 @@ use Rattle.strc_admissible.specs.Machine.{MachineView, words_at}
 use Rattle.strc_admissible.specs.Rings.{Ring, given, items_at, ring_at}
 use Rattle.strc_core.specs.Parcels as parcels
 use Rattle.strc_core.specs.Parcels.{ParcelView, Load, block_at, with_block, filled}
-use Rattle.strc_staged.specs.declared.crossing.Crossing.{Crossing}
-use Rattle.strc_staged.specs.declared.crossing.TapeOf.{TapeOf}
-use Rattle.strc_staged.specs.Steps.{machine_entered, load_entered, load_left, rings_left}
-use Rattle.strc_staged.specs.Steps.{load_worded, words_left, emptied_ring}
+use Rattle.strc_stages.specs.declared.crossing.Crossing.{Crossing}
+use Rattle.strc_stages.specs.declared.crossing.TapeOf.{TapeOf}
+use Rattle.strc_stages.specs.Steps.{machine_entered, load_entered, load_left, rings_left}
+use Rattle.strc_stages.specs.Steps.{load_worded, words_left, emptied_ring}
 use Rattle.strc_runner.specs.Running.{with_rings, with_words}
 use Rattle.strc_stages.specs.Tapes.{AreAfter}
 use Rattle.strc_stages.proofs.Words.{worded_alike}

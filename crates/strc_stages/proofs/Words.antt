@@ -5,8 +5,8 @@ use Rattle.std.proofs.lemmas.List.{get_or-set_other}
 use Rattle.strc_semantics.specs.declared.word.Word.{Word}
 use Rattle.strc_admissible.specs.Machine.{words_at}
 use Rattle.strc_core.specs.Parcels.{Load, with_words}
-use Rattle.strc_staged.specs.declared.crossing.TapeOf.{TapeOf}
-use Rattle.strc_staged.specs.Steps.{load_worded}
+use Rattle.strc_stages.specs.declared.crossing.TapeOf.{TapeOf}
+use Rattle.strc_stages.specs.Steps.{load_worded}
 use Rattle.strc_stages.specs.Tapes.{AreAfter}
 
 set_twice : {A : Type 0} (xs : List A) (place : ℕ) (one other : A)

@@ -10,10 +10,10 @@ use Rattle.strc_core.specs.Parcels.{Load}
 use Rattle.strc_runner.specs.Running.{HasGone}
 use Rattle.strc_runner.specs.declared.machine.Stop as machines
 use Rattle.strc_runner.specs.declared.machine.Stop.TheVariants as fired
-use Rattle.strc_staged.specs.Steps.{StageState, stage_run, machine_entered, machine_left}
-use Rattle.strc_staged.specs.Steps.{due_stop_of, state_of_step, load_of_step, with_machine}
-use Rattle.strc_staged.specs.Steps.{stop_of_run, machine_after, load_after, load_entered, load_left}
-use Rattle.strc_staged.specs.Steps.{load_worded}
+use Rattle.strc_stages.specs.Steps.{StageState, stage_run, machine_entered, machine_left}
+use Rattle.strc_stages.specs.Steps.{due_stop_of, state_of_step, load_of_step, with_machine}
+use Rattle.strc_stages.specs.Steps.{stop_of_run, machine_after, load_after, load_entered, load_left}
+use Rattle.strc_stages.specs.Steps.{load_worded}
 use Rattle.strc_stages.specs.Stepping.{told}
 
 module _ (state : StageState) (load : Load) (machine : MachineView)

@@ -5,7 +5,7 @@ use Rattle.std.specs.Vec.{vec_items}
 use Rattle.strc_semantics.specs.declared.word.Word.{Word}
 use Rattle.strc_core.specs.Actors as actors
 use Rattle.strc_core.specs.declared.stop.Stop.{Stop}
-use Rattle.strc_staged.specs.Steps.{Gathered}
+use Rattle.strc_stages.specs.Steps.{Gathered}
 use Rattle.strc_stages.specs.declared.collector.CollectorParts.{CollectorParts}
 
 abbrev pub total_of : CollectorParts → Gathered

@@ -6,7 +6,7 @@ use Rattle.strc_semantics.specs.declared.word.Word.{Word}
 use Rattle.strc_core.specs.Actors.{MayStop, or_else}
 use Rattle.strc_core.specs.declared.stop.Stop.{Stop}
 use Rattle.strc_core.specs.Parcels.{Load, ParcelView, words_at}
-use Rattle.strc_staged.specs.Steps.{stage_work, with_round}
+use Rattle.strc_stages.specs.Steps.{stage_work, with_round}
 use Rattle.strc_stages.specs.declared.collector.CollectorParts.{CollectorParts}
 use Rattle.strc_stages.specs.Collectors.{total_of}
 

@@ -6,7 +6,7 @@ use Rattle.strc_core.specs.Events.{may, acts, most_acts}
 use Rattle.strc_core.specs.States.{Start, Core, IsState}
 use Rattle.strc_core.specs.declared.stop.Stop.{Stop}
 use Rattle.strc_core.specs.Parcels.{Load}
-use Rattle.strc_staged.specs.Steps.{StageState, Gathered, stage_work}
+use Rattle.strc_stages.specs.Steps.{StageState, Gathered, stage_work}
 
 -- What the core sees of a ring, and of what it begins with.
 abbrev pub PipeView : Type 0

@@ -7,7 +7,7 @@ use Rattle.strc_core.specs.declared.stop.Stop.{Stop}
 use Rattle.strc_runner.specs.Batches.{IsOrderOf, units_of}
 use Rattle.strc_rings.specs.Circuits.{circuit_view}
 use Rattle.strc_runner.specs.Running.{IsMachine, machine_view}
-use Rattle.strc_staged.specs.Steps.{StageState}
+use Rattle.strc_stages.specs.Steps.{StageState}
 use Rattle.strc_stages.specs.Tapes.{AreAfter}
 use Rattle.strc_stages.specs.declared.stage.StageParts.{StageParts}
 

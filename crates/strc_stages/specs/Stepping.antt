@@ -8,8 +8,8 @@ use Rattle.strc_core.specs.Parcels as parcels
 use Rattle.strc_core.specs.Parcels.{ParcelView, parcel}
 use Rattle.strc_runner.specs.declared.machine.Stop as machine
 use Rattle.strc_runner.specs.declared.machine.Stop.TheVariants as fired
-use Rattle.strc_staged.specs.Steps.{StageState, stage_work, due_stop_of, state_of_step}
-use Rattle.strc_staged.specs.Steps.{load_of_step, with_machine}
+use Rattle.strc_stages.specs.Steps.{StageState, stage_work, due_stop_of, state_of_step}
+use Rattle.strc_stages.specs.Steps.{load_of_step, with_machine}
 use Rattle.strc_stages.specs.declared.stage.StageParts.{StageParts}
 use Rattle.strc_stages.specs.Stages.{see, state_of}
 

@@ -1,6 +1,6 @@
 -- Tapes in order of their nodes.
 use Rattle.std.specs.Prelude.{ℕ, suc, ◌≤◌, List, [], ◌∷◌}
-use Rattle.strc_staged.specs.declared.crossing.TapeOf.{TapeOf}
+use Rattle.strc_stages.specs.declared.crossing.TapeOf.{TapeOf}
 
 -- Each tape's node has this number or a later one, and comes after that of the tape before it.
 abbrev pub AreAfter : (node : ℕ) → List TapeOf → Type 0

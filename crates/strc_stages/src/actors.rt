@@ -8,7 +8,7 @@ pub trait StageActor: Actor {
     ghost use Rattle.strc_core.specs.Actors.{Stage, Step};
     ghost use Rattle.strc_core.specs.declared.stop.Stop.{Stop};
     ghost use Rattle.strc_core.specs.Parcels.{ParcelView};
-    ghost use Rattle.strc_staged.specs.Steps.{StageState, stage_work};
+    ghost use Rattle.strc_stages.specs.Steps.{StageState, stage_work};
 
     /// What the core sees of it.
     ghost see: { Self → Stage StageState Stop };
@@ -33,7 +33,7 @@ pub trait CollectorActor: Actor {
     ghost use Rattle.strc_core.specs.Actors.{Collector, Collects};
     ghost use Rattle.strc_core.specs.declared.stop.Stop.{Stop};
     ghost use Rattle.strc_core.specs.Parcels.{ParcelView};
-    ghost use Rattle.strc_staged.specs.Steps.{Gathered, stage_work};
+    ghost use Rattle.strc_stages.specs.Steps.{Gathered, stage_work};
 
     /// What the core sees of it.
     ghost sees: { Self → Collector Gathered Stop };

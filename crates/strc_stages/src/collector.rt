@@ -75,7 +75,7 @@ impl Collector {
 impl Actor for Collector {
     ghost use Rattle.std.specs.Prelude.{true, is_some, nat_le, ◌||◌};
     ghost use Rattle.strc_core.specs.Actors.{Collects};
-    ghost use Rattle.strc_staged.specs.Steps.{stage_work};
+    ghost use Rattle.strc_stages.specs.Steps.{stage_work};
     ghost use Rattle.strc_stages.specs.Collectors.{sees};
 
     ghost does = { λ c p d q. Collects stage_work (sees c) p (sees d) q };

@@ -4,11 +4,11 @@ ghost use Rattle.std.specs.Prelude.{◌≡◌};
 ghost use Rattle.strc_admissible.specs.Machine.{CircuitView};
 ghost use Rattle.strc_core.specs.Parcels as spec;
 ghost use Rattle.strc_runner.specs.Running.{IsMachine, machine_view};
-ghost use Rattle.strc_staged.specs.Steps.{load_entered, machine_entered};
+ghost use Rattle.strc_stages.specs.Steps.{load_entered, machine_entered};
 
+use crate::Crossing;
 use strc_core::Parcel;
 use strc_runner::machine::Machine;
-use strc_staged::Crossing;
 
 /// The items of a parcel's blocks go into the rings of the channels that enter.
 pub(crate) fn enter(machine: &mut Machine, entering: &[Crossing], parcel: &mut Parcel)

@@ -4,7 +4,7 @@ ghost use Rattle.std.specs.Prelude.{◌≡◌, ◌+◌, ◌≤◌, ◌<◌, ◌+
 ghost use Rattle.std.specs.Prelude.{MatchResult};
 ghost use Rattle.std.specs.Vec.{vec_items, vec_capacity};
 ghost use Rattle.strc_core.specs.Parcels.{words_at};
-ghost use Rattle.strc_staged.specs.Steps.{stage_work, words_joined};
+ghost use Rattle.strc_stages.specs.Steps.{stage_work, words_joined};
 ghost use Rattle.strc_stages.specs.Collectors.{IsCollector, sees};
 ghost use Rattle.strc_core.specs.Actors.{Collects, MayStop, or_else, returned};
 ghost use Rattle.strc_stages.specs.Gathering.{HasAdded, HaveRoom};

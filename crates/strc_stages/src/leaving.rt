@@ -5,11 +5,11 @@ ghost use Rattle.strc_admissible.specs.Machine.{CircuitView};
 ghost use Rattle.strc_admissible.specs.Rings.{items_at};
 ghost use Rattle.strc_core.specs.Parcels as spec;
 ghost use Rattle.strc_runner.specs.Running.{IsMachine, machine_view, with_rings};
-ghost use Rattle.strc_staged.specs.Steps.{load_left, rings_left};
+ghost use Rattle.strc_stages.specs.Steps.{load_left, rings_left};
 
+use crate::Crossing;
 use strc_core::Parcel;
 use strc_runner::machine::Machine;
-use strc_staged::Crossing;
 
 /// The items on the channels that leave go into their blocks of a parcel.
 pub(crate) fn leave(machine: &mut Machine, leaving: &[Crossing], parcel: &mut Parcel)

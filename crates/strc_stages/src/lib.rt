@@ -1,29 +1,42 @@
-// Takes circuits, machines and orders of parts of a plan's nodes.
+// Takes circuits, machines and orders of parts of a plan's nodes; a machine over rings after
+// start-up, and a plan's graph after fission.
 // Gives the stages of the plan, the collector of what they print, and a ring of them on one thread,
-// whose events happen one by one (`Pipe`).
-// The theorems to rely on: each step of a stage, and of a collector, is that of strc_staged;
+// whose events happen one by one (`Pipe`); the machine of the graph after fission, to which the
+// state is dealt out (`deal_out`); and laws on rings of stages, and on plans that are run by them.
+// The theorems to rely on: each step of a stage, and of a collector, is the one defined;
 // `Pipe::event` answers whether the core allows the event, and lets exactly that happen; the end of
-// `Pipe::drive` is over, for every start.
-// Stands on strc_runner, whose machine a stage has, on strc_core, whose parcels and events these
-// are, and on strc_staged, whose definitions stages meet.
+// `Pipe::drive` is over, for every start. `stages_run_alike`: a ring that is over has come to the
+// outcome of the rounds, from the state that it began with; `plan_rings_answer`: and so to the
+// answer of the program's stream equations; `plan_rounds_answer`: so has one machine that runs the
+// rounds; `dealt_machines_hold`: what `deal_out` gives holds the state after start-up.
+// Stands on strc_stage, whose plans and graphs these are, on strc_runner and strc_rings, whose
+// machine and circuit a stage has, on strc_core, whose parcels and events these are, and on what
+// these stand on.
 #![tactic(auto)]
 
 mod actors;
 mod blocks;
 mod collector;
+mod crossing;
+pub mod dealing;
 mod entering;
 mod gathering;
+pub mod laws;
 mod leaving;
 mod making;
 mod moves;
 mod parts;
 mod pipe;
+pub mod ring_laws;
+pub mod split_cut_laws;
+pub mod split_rings_laws;
 mod stage;
 mod stepping;
 mod wording;
 
 pub use actors::{CollectorActor, StageActor};
 pub use collector::{Collector, CollectorParts};
+pub use crossing::{Crossing, TapeOf};
 pub use parts::Parts;
 pub use pipe::Pipe;
 pub use stage::{Block, Stage, StageParts};

@@ -7,7 +7,7 @@ ghost use Rattle.strc_core.specs.declared.event.Event.TheVariants.{Take, Give};
 ghost use Rattle.strc_core.specs.Moves.{rooms};
 ghost use Rattle.strc_stages.specs.Pipes.{IsSomeState};
 ghost use Rattle.strc_stages.specs.Seeing.{core_of_parts, HasRoom};
-ghost use Rattle.strc_staged.specs.Steps.{stage_work};
+ghost use Rattle.strc_stages.specs.Steps.{stage_work};
 
 use crate::actors::{CollectorActor, StageActor};
 use crate::parts::Parts;

@@ -7,7 +7,7 @@ ghost use Rattle.strc_core.specs.States.{IsStart, first_core};
 ghost use Rattle.strc_stages.specs.Pipes.{Beginning, PipeView, IsStateOf, IsSomeState};
 ghost use Rattle.strc_stages.specs.Pipes.{KeepsStates, IsCounted, IsFirstAllowed};
 ghost use Rattle.strc_stages.specs.Seeing.{ring_of, core_of, core_of_parts, start_of};
-ghost use Rattle.strc_staged.specs.Steps.{stage_work};
+ghost use Rattle.strc_stages.specs.Steps.{stage_work};
 
 use crate::actors::{CollectorActor, StageActor};
 use crate::making::{empty_hands, links_before};

@@ -3,16 +3,15 @@
 ghost use Rattle.std.specs.Prelude.{◌≡◌, IfOk};
 ghost use Rattle.strc_core.specs.Parcels.{ParcelView, empty_load, parcel};
 
-use crate::StageActor;
 use crate::blocks::{fit_blocks, free_parcel};
 use crate::stepping::step_parts;
+use crate::{Crossing, StageActor, TapeOf};
 use std::alloc::Global;
 use std::marker::Model;
 use strc_core::{Actor, Parcel, Stop};
 use strc_rings::circuit::Circuit;
 use strc_runner::batches::Order;
 use strc_runner::machine::Machine;
-use strc_staged::{Crossing, TapeOf};
 
 /// What a stage is made of.
 #[derive(Drop)]
@@ -100,7 +99,7 @@ impl Stage {
 impl Actor for Stage {
     ghost use Rattle.std.specs.Prelude.{is_some, nat_le, ◌||◌};
     ghost use Rattle.strc_core.specs.Actors.{Step};
-    ghost use Rattle.strc_staged.specs.Steps.{stage_work};
+    ghost use Rattle.strc_stages.specs.Steps.{stage_work};
     ghost use Rattle.strc_stages.specs.Stages.{see};
     ghost use Rattle.strc_stages.specs.Blocks.{fits};
 

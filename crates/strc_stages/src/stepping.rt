@@ -3,7 +3,7 @@
 ghost use Rattle.std.specs.Prelude.{◌≡◌, ◌<◌, false};
 ghost use Rattle.strc_core.specs.Actors as core;
 ghost use Rattle.strc_core.specs.Actors.{Step};
-ghost use Rattle.strc_staged.specs.Steps.{stage_work};
+ghost use Rattle.strc_stages.specs.Steps.{stage_work};
 ghost use Rattle.strc_stages.specs.Stages.{IsStage, see};
 ghost use Rattle.strc_stages.specs.Stepping.{HasRun, HasWorked, told};
 

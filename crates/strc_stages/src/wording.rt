@@ -4,14 +4,14 @@ ghost use Rattle.std.specs.Prelude.{◌≡◌, [], slice_set};
 ghost use Rattle.strc_admissible.specs.Machine.{CircuitView, words_at};
 ghost use Rattle.strc_core.specs.Parcels as spec;
 ghost use Rattle.strc_runner.specs.Running.{IsMachine, machine_view, with_words};
-ghost use Rattle.strc_staged.specs.Steps.{load_worded, words_left};
+ghost use Rattle.strc_stages.specs.Steps.{load_worded, words_left};
 ghost use Rattle.strc_stages.specs.Tapes.{AreAfter};
 
+use crate::TapeOf;
 use std::alloc::Global;
 use strc_core::Parcel;
 use strc_runner::machine::Machine;
 use strc_semantics::word::Word;
-use strc_staged::TapeOf;
 
 /// The words that the tapes' nodes have given go into a parcel; their memory is exchanged for that
 /// of the parcel's.

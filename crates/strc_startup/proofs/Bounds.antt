@@ -2,41 +2,19 @@
 use Rattle.std.proofs.Common.{◌≡◌, refl, ℕ, zero, suc, ◌<◌, ◌≤◌, Bool, true, false, List, [], ◌∷◌}
 use Rattle.std.proofs.Common.{length}
 use Rattle.std.proofs.Common.{get_or, map, sym, ap}
-use Rattle.std.proofs.Common.{subst, inl, inr, arith, Option, Some, None, slice_get, cond}
+use Rattle.std.proofs.Common.{subst, arith, Option, Some, None, slice_get, cond}
 use Rattle.std.specs.List.{All}
 use Rattle.std.specs.Option.{option_map_or}
-use Rattle.std.proofs.lemmas.Bool.{cases_lt}
 use Rattle.std.proofs.lemmas.List.{get_or-map, length-map}
-use Rattle.std.proofs.lemmas.Option.{slice_get_past}
-use Rattle.strc_graph.specs.Graphs.{NodeCode, Channel, Graph, IsGraph, inputs_at}
-use Rattle.strc_graph.specs.Graphs.{outputs_at, input_ports, output_ports}
+use Rattle.strc_graph.specs.Graphs.{NodeCode, Channel, Graph, IsGraph}
 use Rattle.strc_graph.specs.Rates.{pushes_at}
 use Rattle.strc_balance.specs.Balance.{count_at, IsWithinLimit}
 use Rattle.strc_balance.specs.Rates.{IsRated, equation_of, equations_of, pushes_by_work}
 use Rattle.strc_balance.specs.Rates.{fires_by_rounds, size_of}
+use Rattle.strc_balance.proofs.Rated.{source_within, target_within}
 use Rattle.strc_startup.specs.Rates.{rates_of, rates_of_channel, first_count, has_prework}
 use Rattle.strc_startup.specs.Waiting.{HasEnds, Pushes}
 use Rattle.strc_startup.specs.declared.channel_rates.ChannelRates.{ChannelRates}
-
-source_within : (nodes : List NodeCode) (node port : ℕ) → port < outputs_at nodes node
-    → node < length nodes
-source_within nodes node port h =
-    elim (cases_lt node (length nodes)) [
-      | inl within ↦ within
-      | inr past ↦ let none : outputs_at nodes node ≡ 0 =
-          ap (λ o. option_map_or output_ports o 0) (slice_get_past nodes node past) in
-          absurd (omega arith)
-    ]
-
-target_within : (nodes : List NodeCode) (node port : ℕ) → port < inputs_at nodes node
-    → node < length nodes
-target_within nodes node port h =
-    elim (cases_lt node (length nodes)) [
-      | inl within ↦ within
-      | inr past ↦ let none : inputs_at nodes node ≡ 0 =
-          ap (λ o. option_map_or input_ports o 0) (slice_get_past nodes node past) in
-          absurd (omega arith)
-    ]
 
 -- a node that pushes by work pushes so with each firing after the first one
 by_work : (node : NodeCode) (port : ℕ) (rounds : Bool) → fires_by_rounds node ≡ rounds

@@ -5,7 +5,7 @@ use Rattle.strc_semantics.specs.Firing.{no_traffic}
 use Rattle.strc_semantics.specs.declared.fault.Cause.{Cause}
 use Rattle.strc_statements.specs.declared.store.Store.{Store}
 
--- the variables' values, and how many turns there were
+-- the variables' values, and how many iterations there were
 abbrev pub store_of : Store → firing.Store
 store_of store = record {
   variables = store.variables.variables;

@@ -2,7 +2,7 @@
 
 use crate::variables::Variables;
 
-/// The variables of a composite stream's body, and how many turns loops have made in the whole
+/// The variables of a composite stream's body, and how many iterations loops have made in the whole
 /// program so far.
 #[derive(Drop)]
 pub struct Store {

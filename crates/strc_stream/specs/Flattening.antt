@@ -92,7 +92,7 @@ abbrev mutual
       replicate (size_of (FeedbackLoop joiner body splitter loop enqueued)) (Some first)
   outer_loops first _ = None ∷ []
 
-  -- the same of streams in a row, or side by side
+  -- the joiners of the outermost feedback loops of the nodes of streams in a row, or side by side
   pub row_loops : (first : ℕ) → Streams → List (Option ℕ)
   row_loops first Done = []
   row_loops first (More next rest) = outer_loops first next ++ row_loops (first + size_of next) rest

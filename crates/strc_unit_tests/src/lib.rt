@@ -3,8 +3,8 @@
 // heights, firings over given windows, closed peeks, copies of large codes, graphs of streams,
 // and forms of the command line.
 // There is no theorem here; the values are those of the language's rules.
-// Stands on strc_lex, strc_parse, strc_work, strc_rate, strc_flatten and strc_command, and on no
-// crate above, so that the tests' program is small.
+// Stands on strc_lex, strc_parse, strc_work, strc_rate and strc_flatten, and for the command line
+// on strc_cli.
 #![tactic(auto)]
 
 #[cfg(test)]

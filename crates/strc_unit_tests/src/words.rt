@@ -3,8 +3,8 @@
 use std::alloc::{AllocError, Global};
 use std::process::Abort;
 use std::test::Fail;
-use strc_command::line::{Command, Line, LineFault};
-use strc_command::words::{asks_for_help, asks_for_version, command, usage_error};
+use strc_cli::line::{Command, Line, LineFault};
+use strc_cli::words::{asks_for_help, asks_for_version, command, usage_error};
 
 // What is asked for, in one line: the command and its values, `-` where one isn't given.
 fn reported(alloc: Global, line: &Line) -> Result<String, AllocError> {

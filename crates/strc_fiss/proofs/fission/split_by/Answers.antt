@@ -16,9 +16,10 @@ use Rattle.strc_fiss.specs.declared.error.FissError.TheVariants as refused
 use Rattle.strc_fiss.proofs.Bases.{base_many}
 use Rattle.strc_fiss.proofs.Joining.{wires_join}
 use Rattle.strc_fiss.proofs.Lookup.{part_many}
-use Rattle.strc_fiss.proofs.Outcome.{graph_is, raised_same, passes_there, passed_error}
+use Rattle.strc_fiss.proofs.Outcome.{graph_is, raised_same, passes_there}
 use Rattle.strc_fiss.proofs.Planned.{nodes_there}
 use Rattle.strc_fiss.proofs.fission.split_by.Goals as goal
+use Rattle.strc_base.proofs.Results.{passed_error}
 
 pub graph_of-requires-clause-joined : goal.graph_of-requires-clause-joined
 graph_of-requires-clause-joined c =

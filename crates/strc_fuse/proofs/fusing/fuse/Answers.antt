@@ -12,11 +12,12 @@ use Rattle.strc_dataflow.proofs.Exchange.{same_round}
 use Rattle.strc_graph.specs.Meaning.{node_meaning}
 use Rattle.strc_fuse.specs.Units.{is_free, round_units}
 use Rattle.strc_fuse.specs.declared.error.FuseError.TheVariants as refused
-use Rattle.strc_fuse.proofs.Counting.{counts_alike}
 use Rattle.strc_fuse.proofs.Fusible.{round_counts, round_stays, round_placed, fused_fusible}
 use Rattle.strc_fuse.proofs.Marks.{fused_nodes, as_read}
-use Rattle.strc_fuse.proofs.Refusals.{passed_error, fused_pass}
+use Rattle.strc_fuse.proofs.Refusals.{fused_pass}
 use Rattle.strc_fuse.proofs.fusing.fuse.Goals as goal
+use Rattle.strc_admissible.proofs.Orders.{firing_count_is}
+use Rattle.strc_base.proofs.Results.{passed_error}
 
 pub sizes_of-requires-clause-nodes : goal.sizes_of-requires-clause-nodes
 sizes_of-requires-clause-nodes c =
@@ -108,10 +109,10 @@ returns-clause-same c streams within wired now valid other_valid =
     let new = c.in_ok-round.round.items in
     same_round node_meaning streams within wired (firings_of old)
     (firings_of c.replace_round.new.self.round) now
-    (λ node. counts_alike (firings_of old) node
+    (λ node. firing_count_is (firings_of old) node
     ∙ sym (round_counts free c.args.threshold old new
     (as_read free c.args.threshold c.round.result.now old new c.round.ensures
     c.in_ok-round.ensures) node)
     ∙ sym (ap (λ (s : ScheduleParts). firing_count (firings_of s.round) node)
     c.replace_round.ensures)
-    ∙ sym (counts_alike (firings_of c.replace_round.new.self.round) node)) valid other_valid
+    ∙ sym (firing_count_is (firings_of c.replace_round.new.self.round) node)) valid other_valid

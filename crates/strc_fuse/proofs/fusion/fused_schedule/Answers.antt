@@ -3,7 +3,7 @@ use Rattle.std.proofs.lemmas.List.{length-map}
 use Rattle.strc_graph.specs.NodeView.{graph_view, node_view}
 use Rattle.strc_schedule.specs.Peaks.{HasNodes}
 use Rattle.strc_fuse.specs.declared.error.FuseError.TheVariants as refused
-use Rattle.strc_fuse.proofs.Refusals.{passed_error}
+use Rattle.strc_base.proofs.Results.{passed_error}
 use Rattle.strc_fuse.proofs.Copies.{can_alike, pass_alike, planned_alike}
 use Rattle.strc_fuse.proofs.fusion.fused_schedule.Goals as goal
 

@@ -7,8 +7,8 @@ use Rattle.strc_graph.specs.Tapes.{tape_nodes}
 use Rattle.strc_admissible.specs.Machine.{words_at}
 use Rattle.strc_rings.specs.Circuits.{circuit_view}
 use Rattle.strc_runner.specs.Running.{machine_view}
-use Rattle.strc_staged.specs.Beginnings.{IsBeginning}
-use Rattle.strc_staged.specs.Plans.{running_of}
+use Rattle.strc_stages.specs.Beginnings.{IsBeginning}
+use Rattle.strc_stages.specs.Plans.{running_of}
 use Rattle.strc_stages.specs.Collectors.{begun}
 use Rattle.strc_stages.specs.declared.collector.CollectorParts.{CollectorParts}
 use Rattle.strc_launch.specs.Bounds.{bound_in, last_of}

@@ -1,7 +1,7 @@
 use Rattle.std.proofs.Common.{◌∙◌, ap, subst, map}
 use Rattle.strc_graph.specs.NodeView.{GraphParts, node_view}
 use Rattle.strc_stages.specs.Collectors.{total_of}
-use Rattle.strc_staged.specs.Laws.{TellsOutcome}
+use Rattle.strc_stages.specs.Laws.{TellsOutcome}
 use Rattle.strc_parallel.specs.Answers.{Answer, IsTold}
 use Rattle.strc_parallel.proofs.telling.outcome_of.Goals as goal
 

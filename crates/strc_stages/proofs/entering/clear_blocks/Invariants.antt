@@ -1,6 +1,6 @@
 use Rattle.std.proofs.Common.{◌≡◌, drop}
 use Rattle.strc_core.specs.Parcels.{parcel}
-use Rattle.strc_staged.specs.Steps.{load_entered}
+use Rattle.strc_stages.specs.Steps.{load_entered}
 use Rattle.strc_stages.proofs.entering.clear_blocks.Given as goal
 
 abbrev pub invariant-loop-crossing : goal.invariant-loop-crossing

@@ -1,7 +1,7 @@
 use Rattle.std.proofs.Common.{◌≡◌, drop}
 use Rattle.strc_admissible.specs.Machine.{CircuitView}
 use Rattle.strc_runner.specs.Running.{IsMachine, machine_view}
-use Rattle.strc_staged.specs.Steps.{machine_entered}
+use Rattle.strc_stages.specs.Steps.{machine_entered}
 use Rattle.strc_stages.proofs.entering.fill_rings.Given as goal
 
 abbrev pub invariant-loop-crossing : goal.invariant-loop-crossing

@@ -1,5 +1,5 @@
 use Rattle.std.proofs.Common.{◌∙◌, ap, ◌<◌, length, ◌++◌, length-set, arith, map, vec_items}
-use Rattle.strc_staged.specs.Steps.{words_joined}
+use Rattle.strc_stages.specs.Steps.{words_joined}
 use Rattle.strc_stages.proofs.Gathered.{joins, less_room}
 use Rattle.strc_stages.proofs.gathering.append_words.Goals as goal
 

@@ -1,5 +1,5 @@
 use Rattle.std.proofs.Common.{◌≡◌, length, map, drop, vec_items}
-use Rattle.strc_staged.specs.Steps.{words_joined}
+use Rattle.strc_stages.specs.Steps.{words_joined}
 use Rattle.strc_stages.specs.Gathering.{HaveRoom}
 use Rattle.strc_stages.proofs.Gathered.{joined_to}
 use Rattle.strc_stages.proofs.gathering.append_words.Given as goal

@@ -1,7 +1,7 @@
 use Rattle.std.proofs.Common.{◌≡◌, drop}
 use Rattle.strc_admissible.specs.Machine.{CircuitView}
 use Rattle.strc_runner.specs.Running.{IsMachine, machine_view, with_rings}
-use Rattle.strc_staged.specs.Steps.{rings_left}
+use Rattle.strc_stages.specs.Steps.{rings_left}
 use Rattle.strc_stages.proofs.leaving.clear_rings.Given as goal
 
 abbrev pub invariant-loop-crossing : goal.invariant-loop-crossing

@@ -1,7 +1,7 @@
 use Rattle.std.proofs.Common.{◌≡◌, drop}
 use Rattle.strc_core.specs.Parcels.{parcel}
 use Rattle.strc_runner.specs.Running.{machine_view}
-use Rattle.strc_staged.specs.Steps.{load_left}
+use Rattle.strc_stages.specs.Steps.{load_left}
 use Rattle.strc_stages.proofs.leaving.fill_blocks.Given as goal
 
 abbrev pub invariant-loop-crossing : goal.invariant-loop-crossing

@@ -1,5 +1,5 @@
 use Rattle.std.proofs.Common.{arith}
-use Rattle.strc_staged.specs.Steps.{stage_work}
+use Rattle.strc_stages.specs.Steps.{stage_work}
 use Rattle.strc_stages.proofs.Acting.{stage_goes, collector_goes, stage_does, collector_does}
 use Rattle.strc_stages.proofs.moves.act.Goals as goal
 

@@ -1,7 +1,7 @@
 use Rattle.std.proofs.Common.{◌∙◌, sym}
 use Rattle.std.proofs.lemmas.List.{length-map}
 use Rattle.strc_stages.specs.Seeing.{core_of_parts}
-use Rattle.strc_staged.specs.Steps.{stage_work}
+use Rattle.strc_stages.specs.Steps.{stage_work}
 use Rattle.strc_stages.proofs.Timely.{unfinished_has_rounds}
 use Rattle.strc_stages.proofs.Moving.{allows_take, allows_give}
 use Rattle.strc_stages.proofs.moves.allows.Goals as goal

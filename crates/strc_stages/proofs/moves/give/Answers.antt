@@ -1,7 +1,7 @@
 use Rattle.std.proofs.Common.{refl, vec_items, vec_capacity}
 use Rattle.strc_core.proofs.Reading.{give_holding, give_room, gives_by}
 use Rattle.strc_stages.specs.Seeing.{core_of_parts}
-use Rattle.strc_staged.specs.Steps.{stage_work}
+use Rattle.strc_stages.specs.Steps.{stage_work}
 use Rattle.strc_stages.proofs.moves.give.Goals as goal
 
 pub release-parcel-requires : goal.release-parcel-requires

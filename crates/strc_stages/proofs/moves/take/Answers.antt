@@ -3,7 +3,7 @@ use Rattle.strc_core.specs.Events.{is_free}
 use Rattle.strc_core.proofs.Reading.{take_free}
 use Rattle.strc_core.proofs.Taking.{taker_has_rounds}
 use Rattle.strc_stages.specs.Seeing.{core_of_parts}
-use Rattle.strc_staged.specs.Steps.{stage_work}
+use Rattle.strc_stages.specs.Steps.{stage_work}
 use Rattle.strc_stages.proofs.Moving.{from_is, from_loaded, takes_parts}
 use Rattle.strc_stages.proofs.moves.take.Goals as goal
 

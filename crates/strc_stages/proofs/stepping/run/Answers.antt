@@ -2,7 +2,7 @@ use Rattle.std.proofs.Common.{◌≡◌, ◌∙◌, refl, sym, ap, subst, Option
 use Rattle.strc_core.specs.Actors.{or_else}
 use Rattle.strc_core.specs.declared.stop.Stop.{Stop}
 use Rattle.strc_core.specs.Parcels.{ParcelView, parcel, emptied}
-use Rattle.strc_staged.specs.Steps.{with_machine}
+use Rattle.strc_stages.specs.Steps.{with_machine}
 use Rattle.strc_stages.specs.Stages.{see, state_of}
 use Rattle.strc_stages.specs.Stepping.{RunsTo, with_stop}
 use Rattle.strc_stages.proofs.Steps.{stopped_runs, halted_runs, working_runs, stopping_runs}

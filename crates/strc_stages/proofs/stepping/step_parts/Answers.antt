@@ -1,7 +1,7 @@
 use Rattle.std.proofs.Common.{◌≡◌, ◌∙◌, refl, sym, ap, arith, suc, ◌+◌}
 use Rattle.strc_core.specs.Actors as actors
 use Rattle.strc_core.specs.Parcels.{ParcelView, parcel}
-use Rattle.strc_staged.specs.Steps.{StageState}
+use Rattle.strc_stages.specs.Steps.{StageState}
 use Rattle.strc_core.specs.declared.stop.Stop.{Stop}
 use Rattle.strc_stages.specs.Stages.{see}
 use Rattle.strc_stages.proofs.Steps.{step_is}

@@ -6,8 +6,8 @@ use Rattle.strc_core.specs.Parcels.{ParcelView, parcel, emptied}
 use Rattle.strc_rings.specs.Circuits.{circuit_view}
 use Rattle.strc_schedule.specs.Greedy.{firings_of}
 use Rattle.strc_runner.specs.Running.{HasGone, machine_view, with_rings, with_words}
-use Rattle.strc_staged.specs.Steps.{StageState, machine_left, rings_left, words_left, load_left}
-use Rattle.strc_staged.specs.Steps.{load_worded, load_entered, machine_entered}
+use Rattle.strc_stages.specs.Steps.{StageState, machine_left, rings_left, words_left, load_left}
+use Rattle.strc_stages.specs.Steps.{load_worded, load_entered, machine_entered}
 use Rattle.strc_stages.specs.Stages.{state_of}
 use Rattle.strc_stages.specs.Stepping.{told, with_stop}
 use Rattle.strc_stages.proofs.Filling.{emptied_entered}

@@ -2,7 +2,7 @@ use Rattle.std.proofs.Common.{◌≡◌, drop}
 use Rattle.strc_admissible.specs.Machine.{CircuitView}
 use Rattle.strc_core.specs.Parcels.{parcel}
 use Rattle.strc_runner.specs.Running.{IsMachine, machine_view, with_words}
-use Rattle.strc_staged.specs.Steps.{load_worded, words_left}
+use Rattle.strc_stages.specs.Steps.{load_worded, words_left}
 use Rattle.strc_stages.proofs.wording.hand_words.Given as goal
 
 abbrev pub invariant-loop-own : goal.invariant-loop-own

@@ -1,6 +1,6 @@
 use Rattle.std.proofs.Common.{ap}
 use Rattle.strc_stages.specs.Seeing.{core_of, core_of_parts}
-use Rattle.strc_staged.specs.Steps.{stage_work}
+use Rattle.strc_stages.specs.Steps.{stage_work}
 use Rattle.strc_stages.proofs.Happening.{some_after, state_kept, counted, room_stays}
 use Rattle.strc_stages.proofs.pipe.Pipe.event.Goals as goal
 

@@ -1,6 +1,6 @@
 use Rattle.std.proofs.Common.{refl, ap}
 use Rattle.strc_stages.specs.Seeing.{core_of, core_of_parts}
-use Rattle.strc_staged.specs.Steps.{stage_work}
+use Rattle.strc_stages.specs.Steps.{stage_work}
 use Rattle.strc_stages.proofs.Happening.{goes_on}
 use Rattle.strc_stages.proofs.pipe.Pipe.finish.Goals as goal
 

@@ -1,7 +1,7 @@
 use Rattle.std.proofs.Common.{◌≡◌, ap, ◌∙◌}
 use Rattle.std.proofs.lemmas.Result.{IfOk-weaker}
 use Rattle.strc_core.specs.States.{first_core}
-use Rattle.strc_staged.specs.Steps.{stage_work}
+use Rattle.strc_stages.specs.Steps.{stage_work}
 use Rattle.strc_stages.specs.declared.parts.Parts.{Parts}
 use Rattle.strc_stages.specs.Seeing.{ring_of, core_of, start_of}
 use Rattle.strc_stages.proofs.Beginning.{parts_are_first, parts_are_state}

@@ -1,5 +1,0 @@
-pub mod CommandWords
-pub mod FaultlessRows
-pub mod FaultlessWords
-pub mod LineWords
-pub mod Parsers

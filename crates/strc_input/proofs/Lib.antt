@@ -1,4 +1,0 @@
-pub mod Bytes
-pub mod Words
-pub mod Inputs
-pub mod InputPieces

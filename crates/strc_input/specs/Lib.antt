@@ -1,4 +1,0 @@
-pub mod Numbers
-pub mod Reading
-pub mod Answers
-pub mod Input
