@@ -14,5 +14,7 @@ pub mod TurnFirings
 pub mod PartLists
 pub mod PartMachines
 pub mod KeptNodes
+pub mod LaneFirings
 pub mod LaneRings
 pub mod LaneTurns
+pub mod LaneTakings

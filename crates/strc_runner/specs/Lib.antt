@@ -9,4 +9,5 @@ pub mod Parts
 pub mod Memory
 pub mod Handing
 pub mod Keeping
+pub mod Firings
 pub mod Lanes

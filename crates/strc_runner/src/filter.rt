@@ -11,10 +11,10 @@ ghost use Rattle.strc_graph.specs.Rates as rates;
 ghost use Rattle.strc_rings.specs.Answers.{HasStepped};
 ghost use Rattle.strc_rings.specs.Words.{WantsWordOfStep};
 
+use crate::lanes::frame::LaneFrame;
 use std::alloc::Global;
 use strc_base::memory::NoMemory;
 use strc_code::code::Code;
-use strc_filter::frame::LaneFrame;
 use strc_graph::graph::Fission;
 use strc_graph::rates::body_at;
 use strc_rings::copy::copy_pops;
@@ -38,8 +38,10 @@ pub(crate) struct FilterActor {
     pub(crate) later: Taking,
     /// Room for firings in lanes.
     pub(crate) lanes: LaneFrame,
-    /// How often firings in lanes were tried in vain.
+    /// How often in a row firings in lanes were tried in vain.
     pub(crate) parted: u32,
+    /// From which firing on they may be tried again.
+    pub(crate) again: u64,
 }
 
 /// How many items a firing looks at, and how many of them it pops.
@@ -71,11 +73,12 @@ pub(crate) fn start_filter(alloc: Global, code: &Code) -> Result<FilterActor, No
         later,
         lanes: LaneFrame::new(alloc),
         parted: 0,
+        again: 0,
     })
 }
 
 /// What the firings of a body take.
-fn taking_of(code: &Code, body: Body) -> Taking
+pub(crate) fn taking_of(code: &Code, body: Body) -> Taking
     ensures taking { IsTakingOf (filter_of code.now) body result }
     ensures known { IsClosedFilter (filter_of code.now) }
 {

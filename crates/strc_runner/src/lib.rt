@@ -4,7 +4,7 @@
 // firing, and each change of a machine by its owner is just what is said of it.
 // Stands on strc_admissible, whose definitions say what a run over rings is, on strc_rings, whose
 // circuits it runs and which moves items over rings, on strc_schedule, whose units it fires, on
-// strc_work, whose codes it fires, and on strc_filter, which does many firings of a filter at once.
+// strc_work, whose codes it fires, and on strc_lanes, which runs a code for many firings at once.
 #![tactic(auto)]
 
 mod access;
@@ -17,7 +17,7 @@ mod filter;
 mod handing;
 mod identity;
 mod keeping;
-mod lanes;
+pub mod lanes;
 pub mod laws;
 pub mod machine;
 mod parting;

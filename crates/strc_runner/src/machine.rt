@@ -21,6 +21,7 @@ use crate::actor::{Actor, start_actors};
 use crate::batches::{Batch, BatchList, Order};
 use crate::block::pass_at_once;
 use crate::filter::{fire_copy, fire_filter};
+use crate::parting::greatest_room;
 use crate::passing::fire_passive;
 use std::alloc::{AllocError, Global};
 use strc_base::memory::NoMemory;
@@ -76,7 +77,7 @@ impl Machine {
         let actors = start_actors(alloc, graph.nodes())?;
         let fired = Vec::from_elem(alloc, 0, graph.nodes().len())?;
         let rings = first_rings(alloc, graph.channels(), sizes)?;
-        let items = Vec::from_elem(alloc, 0, greatest(sizes))?;
+        let items = Vec::from_elem(alloc, 0, greatest_room(&rings))?;
         let words = no_words(alloc, graph.nodes().len())?;
         Ok(Machine {
             actors,
@@ -392,13 +393,4 @@ pub(crate) fn no_words(alloc: Global, count: usize) -> Result<Vec<Vec<Word>>, Al
         words.push(Vec::new(alloc))?;
     }
     Ok(words)
-}
-
-/// The greatest of some sizes.
-pub(crate) fn greatest(sizes: &[u32]) -> usize {
-    let mut greatest = 0;
-    for size in sizes {
-        greatest = greatest.max(*size);
-    }
-    greatest as usize
 }

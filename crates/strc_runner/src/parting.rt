@@ -13,7 +13,7 @@ ghost use Rattle.strc_runner.specs.Running.{IsMachine, machine_view, words_of};
 ghost use Rattle.strc_runner.specs.declared.actor.Actor.TheVariants as actor;
 
 use crate::actor::Actor;
-use crate::machine::{Machine, greatest, no_words};
+use crate::machine::{Machine, no_words};
 use circular_buffer::HeapCircularBuffer;
 use std::alloc::{AllocError, Global};
 use std::mem;
@@ -50,7 +50,7 @@ impl Machine {
         let nodes = nodes_within(alloc, own.nodes.len(), first, next)?;
         let channels = channels_within(alloc, graph.channels(), first, next)?;
         let rings = parted_rings(alloc, graph.channels(), first, next, rooms)?;
-        let room = greatest_room(&self.rings).max(greatest(rooms));
+        let room = greatest_room(&self.rings).max(greatest_room(&rings));
         let mut part = empty_part(alloc, own.nodes.len(), rings, room)?;
         exchange(&mut part, self, &nodes, &channels);
         Ok(part)
@@ -125,7 +125,7 @@ fn room_at(first: usize, next: usize, rooms: &[u32], number: usize, channel: &Ch
 }
 
 /// The room of the largest ring.
-fn greatest_room(rings: &[Ring]) -> usize {
+pub(crate) fn greatest_room(rings: &[Ring]) -> usize {
     let mut greatest = 0;
     for ring in rings {
         greatest = greatest.max(ring.capacity());

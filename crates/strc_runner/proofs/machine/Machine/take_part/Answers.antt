@@ -11,7 +11,7 @@ use Rattle.strc_runner.proofs.machine.Machine.take_part.Goals as goal
 pub exchange-requires-clause-part : goal.exchange-requires-clause-part
 exchange-requires-clause-part c =
     let count = c.len-2.ensures ∙ sym c.len.ensures
-    ∙ sym (ap length c.deref-2.ensures.value ∙ c.in_ok-nodes.ensures.each) in
+    ∙ sym (ap length c.deref-3.ensures.value ∙ c.in_ok-nodes.ensures.each) in
     record {
       actors = ap length c.in_ok-part.ensures.actors
           ∙ length-replicate c.len-2.result actor.Passive ∙ count;
@@ -22,12 +22,12 @@ exchange-requires-clause-part c =
           ∙ length-map c.channels-2.result.now channel_view
           ∙ ap length (c.channels-2.ensures.channels ∙ sym c.channels.ensures.channels)
           ∙ sym (length-map c.channels.result.now (ends_within c.args.first c.args.next))
-          ∙ sym (ap length (c.deref-3.ensures.value ∙ c.in_ok-channels.ensures));
+          ∙ sym (ap length (c.deref-4.ensures.value ∙ c.in_ok-channels.ensures));
     }
 
 parting : (c : goal.After-drop-nodes-2)
     → IsParting c.args.graph.now (circuit_view c.args.own.now) c.args.first c.args.next
-    c.len.result c.args.rooms.now c.deref-2.result.now c.deref-3.result.now c.args.self.now
+    c.len.result c.args.rooms.now c.deref-3.result.now c.deref-4.result.now c.args.self.now
     c.in_ok-part.part c.exchange.new.part c.exchange.new.whole
 parting c =
     let count = c.len-2.ensures ∙ sym c.len.ensures in
@@ -37,10 +37,10 @@ parting c =
       holds = c.requires.holds;
       all = length-map c.args.own.now.nodes.items node_view ∙ sym c.args.own.now.nodes.ok.0
           ∙ sym c.len.ensures;
-      long = ap length c.deref-2.ensures.value ∙ c.in_ok-nodes.ensures.each;
-      marked = λ node less. ap (λ l. get_or l node false) c.deref-2.ensures.value
+      long = ap length c.deref-3.ensures.value ∙ c.in_ok-nodes.ensures.each;
+      marked = λ node less. ap (λ l. get_or l node false) c.deref-3.ensures.value
           ∙ c.in_ok-nodes.ensures.marks node less;
-      ends = c.deref-3.ensures.value ∙ c.in_ok-channels.ensures
+      ends = c.deref-4.ensures.value ∙ c.in_ok-channels.ensures
           ∙ ap (map (ends_within c.args.first c.args.next)) c.channels.ensures.channels;
       actors = c.in_ok-part.ensures.actors ∙ ap (λ n. replicate n actor.Passive) count;
       fired = c.in_ok-part.ensures.fired ∙ ap (λ n. replicate n 0) count;
