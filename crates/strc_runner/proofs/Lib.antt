@@ -18,3 +18,4 @@ pub mod LaneFirings
 pub mod LaneRings
 pub mod LaneTurns
 pub mod LaneTakings
+pub mod Nodes

@@ -20,13 +20,13 @@ use Rattle.strc_runner.proofs.Done.{machine_after, step_of, passive_kept, passiv
 use Rattle.strc_runner.proofs.Done.{stepped_at, stepped_passive, stepped_words}
 use Rattle.strc_runner.proofs.Wanting.{step_wants}
 use Rattle.strc_runner.proofs.WordLists.{own_words, words_many, words_set}
+use Rattle.strc_runner.proofs.Nodes.{node_within}
 use Rattle.strc_runner.proofs.machine.Machine.step.Goals as goal
 
 pub fire_filter-requires-clause-actor : goal.fire_filter-requires-clause-actor
 fire_filter-requires-clause-actor c =
-    let there : c.args.batch.now.node < length c.args.circuit.now.nodes.items =
-    let e = c.requires.batch.node in
-    let l = length-map c.args.circuit.now.nodes.items node_view in omega arith in
+    let there = node_within c.args.circuit.now.nodes.items c.args.batch.now.node
+    c.requires.batch.node in
     let filter : Node = node.Filter c.in-Filter.instance in
     subst (IsActorOf (node_view filter)) c.in-Filter-index_mut.is
     (actor_at c.args.circuit.now.nodes.items c.args.self.now.actors.items c.requires.machine.actors
@@ -35,9 +35,8 @@ fire_filter-requires-clause-actor c =
 
 pub unreachable-requires : goal.unreachable-requires
 unreachable-requires c =
-    let there : c.args.batch.now.node < length c.args.circuit.now.nodes.items =
-    let e = c.requires.batch.node in
-    let l = length-map c.args.circuit.now.nodes.items node_view in omega arith in
+    let there = node_within c.args.circuit.now.nodes.items c.args.batch.now.node
+    c.requires.batch.node in
     let filter : Node = node.Filter c.in-Filter.instance in
     subst (IsActorOf (node_view filter)) c.in-Passive.is
     (actor_at c.args.circuit.now.nodes.items c.args.self.now.actors.items c.requires.machine.actors
@@ -46,18 +45,16 @@ unreachable-requires c =
 
 pub step_copy-requires-clause-copy : goal.step_copy-requires-clause-copy
 step_copy-requires-clause-copy c =
-    let there : c.args.batch.now.node < length c.args.circuit.now.nodes.items =
-    let e = c.requires.batch.node in
-    let l = length-map c.args.circuit.now.nodes.items node_view in omega arith in
+    let there = node_within c.args.circuit.now.nodes.items c.args.batch.now.node
+    c.requires.batch.node in
     let copy : Node = node.Copy c.in-Copy.copied c.in-Copy.fission in
     code_at c.args.circuit.now.nodes.items c.args.batch.now.node c.index.result.now copy there
     (sym c.index.ensures ∙ c.in-Copy.is)
 
 pub returns-in-Filter-index_mut-clause-machine : goal.returns-in-Filter-index_mut-clause-machine
 returns-in-Filter-index_mut-clause-machine c =
-    let there : c.args.batch.now.node < length c.args.circuit.now.nodes.items =
-    let e = c.requires.batch.node in
-    let l = length-map c.args.circuit.now.nodes.items node_view in omega arith in
+    let there = node_within c.args.circuit.now.nodes.items c.args.batch.now.node
+    c.requires.batch.node in
     let filter : Node = node.Filter c.in-Filter.instance in
     let rings = c.args.self.now.rings in
     machine_after (circuit_view c.args.circuit.now) c.args.self.now _ c.requires.machine
@@ -72,9 +69,8 @@ returns-in-Filter-index_mut-clause-machine c =
 
 pub returns-in-Filter-index_mut-clause-step : goal.returns-in-Filter-index_mut-clause-step
 returns-in-Filter-index_mut-clause-step c =
-    let there : c.args.batch.now.node < length c.args.circuit.now.nodes.items =
-    let e = c.requires.batch.node in
-    let l = length-map c.args.circuit.now.nodes.items node_view in omega arith in
+    let there = node_within c.args.circuit.now.nodes.items c.args.batch.now.node
+    c.requires.batch.node in
     let filter : Node = node.Filter c.in-Filter.instance in
     let actors = c.args.self.now.actors.items in
     let number = c.args.batch.now.node in
@@ -123,9 +119,8 @@ returns-in-Filter-index_mut-clause-step c =
 
 pub returns-in-Filter-index_mut-clause-memory : goal.returns-in-Filter-index_mut-clause-memory
 returns-in-Filter-index_mut-clause-memory c =
-    let there : c.args.batch.now.node < length c.args.circuit.now.nodes.items =
-    let e = c.requires.batch.node in
-    let l = length-map c.args.circuit.now.nodes.items node_view in omega arith in
+    let there = node_within c.args.circuit.now.nodes.items c.args.batch.now.node
+    c.requires.batch.node in
     let filter : Node = node.Filter c.in-Filter.instance in
     let code = filter_of c.in-Filter.instance.code in
     let actors = c.args.self.now.actors.items in
@@ -160,9 +155,8 @@ returns-in-Filter-index_mut-clause-memory c =
 
 pub returns-in_default : goal.returns-in_default
 returns-in_default c =
-    let there : c.args.batch.now.node < length c.args.circuit.now.nodes.items =
-    let e = c.requires.batch.node in
-    let l = length-map c.args.circuit.now.nodes.items node_view in omega arith in
+    let there = node_within c.args.circuit.now.nodes.items c.args.batch.now.node
+    c.requires.batch.node in
     let passive = c.index.result.now in
     let actors = c.args.self.now.actors.items in
     let number = c.args.batch.now.node in

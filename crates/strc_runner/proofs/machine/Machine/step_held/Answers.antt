@@ -20,13 +20,13 @@ use Rattle.strc_runner.proofs.Done.{actor_at, actor_set, code_at, fields_set, fi
 use Rattle.strc_runner.proofs.Done.{machine_after, step_of}
 use Rattle.strc_runner.proofs.Held.{same_held}
 use Rattle.strc_runner.proofs.WordLists.{own_words, words_many, words_set}
+use Rattle.strc_runner.proofs.Nodes.{node_within}
 use Rattle.strc_runner.proofs.machine.Machine.step_held.Goals as goal
 
 pub fire_by_hand-requires-clause-actor : goal.fire_by_hand-requires-clause-actor
 fire_by_hand-requires-clause-actor c =
-    let there : c.args.batch.now.node < length c.args.circuit.now.nodes.items =
-    let e = c.requires.batch.node in
-    let l = length-map c.args.circuit.now.nodes.items node_view in omega arith in
+    let there = node_within c.args.circuit.now.nodes.items c.args.batch.now.node
+    c.requires.batch.node in
     let filter : Node = node.Filter c.in-Filter.instance in
     subst (IsActorOf (node_view filter)) c.in-Filter-index_mut.is
     (actor_at c.args.circuit.now.nodes.items c.args.self.now.actors.items c.requires.machine.actors
@@ -35,9 +35,8 @@ fire_by_hand-requires-clause-actor c =
 
 pub unreachable-requires : goal.unreachable-requires
 unreachable-requires c =
-    let there : c.args.batch.now.node < length c.args.circuit.now.nodes.items =
-    let e = c.requires.batch.node in
-    let l = length-map c.args.circuit.now.nodes.items node_view in omega arith in
+    let there = node_within c.args.circuit.now.nodes.items c.args.batch.now.node
+    c.requires.batch.node in
     let filter : Node = node.Filter c.in-Filter.instance in
     subst (IsActorOf (node_view filter)) c.in-Passive.is
     (actor_at c.args.circuit.now.nodes.items c.args.self.now.actors.items c.requires.machine.actors
@@ -46,9 +45,8 @@ unreachable-requires c =
 
 pub returns-clause-machine : goal.returns-clause-machine
 returns-clause-machine c =
-    let there : c.args.batch.now.node < length c.args.circuit.now.nodes.items =
-    let e = c.requires.batch.node in
-    let l = length-map c.args.circuit.now.nodes.items node_view in omega arith in
+    let there = node_within c.args.circuit.now.nodes.items c.args.batch.now.node
+    c.requires.batch.node in
     let filter : Node = node.Filter c.in-Filter.instance in
     let rings = c.args.self.now.rings in
     machine_after (circuit_view c.args.circuit.now) c.args.self.now _ c.requires.machine
