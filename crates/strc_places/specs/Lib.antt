@@ -1,3 +1,4 @@
 pub mod Keywords
 pub mod Occurrences
 pub mod Parts
+pub mod Spelling

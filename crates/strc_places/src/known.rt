@@ -1,5 +1,6 @@
 // What is known of a program that a message is about.
 
+use crate::spelling::spelled_or_first;
 use std::alloc::Global;
 use strc_base::place::Span;
 use strc_graph::graph::Graph;
@@ -21,6 +22,7 @@ pub struct Known<'a> {
 
 impl<'a> Known<'a> {
     ghost use Rattle.std.specs.Prelude.{◌≡◌, IfSome};
+    ghost use Rattle.strc_places.specs.Spelling as spelling;
 
     /// The declarations of the program; none where it has no tree.
     pub fn declarations(self) -> &'a [Decl] {
@@ -32,7 +34,16 @@ impl<'a> Known<'a> {
 
     /// The name of a declaration, by the declaration's number.
     pub fn declaration_numbered(self, number: usize) -> Option<Span> {
-        self.declarations().get(number)?.name.place()
+        self.place_of_name(self.declarations().get(number)?)
+    }
+
+    /// Where the name of a declaration is written.
+    pub fn place_of_name(self, declaration: &Decl) -> Option<Span>
+        ensures { spelling.Marks self.entry.source.text.now self.entry.source.tokens.now
+            declaration.now.name result }
+    {
+        let name = &declaration.name;
+        spelled_or_first(self.source, name.place(), name.as_bytes())
     }
 
     /// The declaration of a name.

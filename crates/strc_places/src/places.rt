@@ -1,7 +1,9 @@
 // Which part of a text a refusal is about.
 
-ghost use Rattle.std.specs.Prelude.{◌≡◌};
+ghost use Rattle.std.specs.Prelude.{◌≡◌, IfOk, List, ℕ};
 ghost use Rattle.strc_places.specs.Keywords as keywords;
+ghost use Rattle.strc_places.specs.Spelling as spelling;
+ghost use Rattle.strc_refusal.specs.declared.refusal.Refusal.TheVariants as refused_for;
 
 use crate::bodies::{peek_outside, uncounted_statement};
 use crate::depth::deepest_token;
@@ -9,6 +11,7 @@ use crate::known::Known;
 use crate::moved::{moved_of, place_of_rate};
 use crate::origins::{ends_of, place_of_channel, place_of_node};
 use crate::recursion::recursive_statement;
+use crate::spelling::spelled_or_first;
 use crate::starts::faulting_start;
 use strc_base::memory::NoMemory;
 use strc_base::place::Span;
@@ -27,8 +30,17 @@ use strc_syntax::tree::CompositeKind;
 const MOST_TOKENS: usize = 10_000;
 
 /// The part of the text that a refusal is about, where there is one.
-pub fn place_of_refusal(known: Known<'_>, refused: &Refused) -> Result<Option<Span>, NoMemory> {
+pub fn place_of_refusal(known: Known<'_>, refused: &Refused) -> Result<Option<Span>, NoMemory>
+    // Of a name that isn't declared a place is marked where it is written.
+    ensures { (name : List ℕ) → refused.now ≡ refused_for.UnknownName name
+        → IfOk result (λ place. spelling.Marks known.entry.source.text.now
+        known.entry.source.tokens.now name place) }
+{
     match refused.refusal() {
+        Refusal::UnknownName { name } => {
+            let site = place_of_site(known, refused);
+            Ok(spelled_or_first(known.source, site, name.as_bytes()))
+        }
         Refusal::RateUnknown { node }
         | Refusal::RateMismatch { node, .. }
         | Refusal::PeekOutside { node }
@@ -112,7 +124,7 @@ fn place_of_large(known: Known<'_>) -> Result<Option<Span>, NoMemory> {
 /// The stream that is asked for, or else the last declared one whose name is nowhere else.
 fn place_without_main(known: Known<'_>) -> Option<Span> {
     if let Some(main) = known.source.main {
-        return known.declaration_named(main.as_bytes())?.name.place();
+        return known.place_of_name(known.declaration_named(main.as_bytes())?);
     }
     if known.source.tokens.len() > MOST_TOKENS {
         return None;
@@ -121,7 +133,7 @@ fn place_without_main(known: Known<'_>) -> Option<Span> {
         known.source.tokens,
         it.name.as_bytes(),
     ) == 1)?;
-    unused.name.place()
+    known.place_of_name(unused)
 }
 
 /// Where the text faults before it runs.
@@ -163,7 +175,7 @@ fn place_of_site(known: Known<'_>, refused: &Refused) -> Option<Span> {
         | Refusal::BadArguments { stream }
         | Refusal::BadWeights { stream } => known.declaration_numbered(*stream),
         Refusal::ConstFault { .. } | Refusal::NodeLimit | Refusal::DepthLimit => {
-            known.main()?.name.place()
+            known.place_of_name(known.main()?)
         }
         _ => None,
     }
