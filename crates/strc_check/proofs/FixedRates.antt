@@ -75,6 +75,7 @@ constant_gives constants fields tree.Pop = tt
 constant_gives constants fields (tree.Peek index) =
     any_gives IsConstantTyped (expr_resolved (rate_context constants) fields index)
     (λ i. peek_typed false i) (λ i. tt)
+constant_gives constants fields (tree.Call name arguments) = tt
 constant_gives constants fields (tree.Group inner) =
     then_gives IsConstantTyped IsConstantTyped (expr_resolved (rate_context constants) fields inner)
     (λ i. Ok (group_typed i)) (constant_gives constants fields inner) (λ i h. h)

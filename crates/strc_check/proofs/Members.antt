@@ -82,3 +82,4 @@ other_than_fields (member.Fields declared) names rest other = absurd (other decl
 other_than_fields (member.Init' shape block) names rest other = refl
 other_than_fields (member.Prework' rates shape block) names rest other = refl
 other_than_fields (member.Work' rates shape block) names rest other = refl
+other_than_fields (member.Helper' kind name parameters shape block) names rest other = refl

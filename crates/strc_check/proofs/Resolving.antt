@@ -38,6 +38,7 @@ IsNamedMember fields (tree.Fields kind variables) = AreNamedFields fields variab
 IsNamedMember fields (tree.Init block) = Unit {0}
 IsNamedMember fields (tree.Prework rates block) = Unit {0}
 IsNamedMember fields (tree.Work rates block) = Unit {0}
+IsNamedMember fields (tree.Helper kind name parameters block) = Unit {0}
 
 abbrev AreNamedMembers : List (List ℕ) → List tree.Member → Type 0
 AreNamedMembers fields [] = Unit {0}
@@ -121,6 +122,8 @@ member_gives constants input output scope fields before (tree.Work rates block) 
     then_gives (λ (work' : Work). AreClosed scope work'.block) (IsClosedMember scope)
     (work_resolved constants input output fields work) (λ w. Ok (tree.Work w.rates w.block))
     (work_gives constants input output scope fields work sees) (λ w h. h)
+member_gives constants input output scope fields before (tree.Helper kind name parameters block)
+    sees named = tt
 
 members_give : (constants : List (List ℕ × ℤ)) (input output : ItemType) (scope : Scope)
     (fields : TypedNames) (before : List (List ℕ)) (ms : List tree.Member) → Sees scope fields →
@@ -222,6 +225,7 @@ member_fields constants input output fields before (tree.Work rates block) =
     any_gives (HasFields (tree.Work rates block))
     (work_resolved constants input output fields (record { rates = rates; block = block }))
     (λ w. Ok (tree.Work w.rates w.block)) (λ w rest rest' same. same)
+member_fields constants input output fields before (tree.Helper kind name parameters block) = tt
 
 members_fields : (constants : List (List ℕ × ℤ)) (input output : ItemType) (fields : TypedNames)
     (before : List (List ℕ)) (ms : List tree.Member) → Gives (HaveFields ms)
@@ -284,6 +288,7 @@ all_named back (tree.Fields kind variables ∷ rest) =
 all_named back (tree.Init block ∷ rest) = (tt, all_named back rest)
 all_named back (tree.Prework rates block ∷ rest) = (tt, all_named back rest)
 all_named back (tree.Work rates block ∷ rest) = (tt, all_named back rest)
+all_named back (tree.Helper kind name parameters block ∷ rest) = (tt, all_named back rest)
 
 -- the names of a declaration are in front, the last one first
 names_with-reverse : (names : List (List ℕ)) (variables : List tree.Variable) → names_with names
@@ -305,6 +310,7 @@ plain_fields names (tree.Fields kind variables ∷ rest) =
 plain_fields names (tree.Init block ∷ rest) = plain_fields names rest
 plain_fields names (tree.Prework rates block ∷ rest) = plain_fields names rest
 plain_fields names (tree.Work rates block ∷ rest) = plain_fields names rest
+plain_fields names (tree.Helper kind name parameters block ∷ rest) = plain_fields names rest
 
 -- a closed filter with the fields of another one
 abbrev IsLikeFilter : Filter → Filter → Type 0

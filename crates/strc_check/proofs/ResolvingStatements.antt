@@ -247,6 +247,7 @@ expr_gives context scope names (tree.Peek index) sees =
     then_gives (IsClosedTyped scope) (IsClosedTyped scope) (expr_resolved context names index)
     (λ i. peek_typed context.pops i) (expr_gives context scope names index sees)
     (λ i h. peek_gives scope context.pops i h)
+expr_gives context scope names (tree.Call name arguments) sees = tt
 expr_gives context scope names (tree.Group inner) sees =
     then_gives (IsClosedTyped scope) (IsClosedTyped scope) (expr_resolved context names inner)
     (λ i. Ok (group_typed i)) (expr_gives context scope names inner sees) (λ i h. h)
@@ -568,6 +569,7 @@ mutual
   stmt_gives context scope names outer (tree.Println value) sees =
       given_like context scope names context.prints value (tree.Println value) tree.Println sees
       (λ e h. (h, sees))
+  stmt_gives context scope names outer (tree.Return value) sees = tt
 
   pub stmts_gives : (context : Context) (scope : Scope) (names : TypedNames) (outer : ℕ)
       (b : tree.Stmts) → Sees scope names → Gives (AreClosed scope)

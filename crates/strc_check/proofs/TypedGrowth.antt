@@ -45,6 +45,7 @@ stands_on_after base names (tree.For first condition step body) h = h
 stands_on_after base names (tree.Push value) h = h
 stands_on_after base names (tree.Print value) h = h
 stands_on_after base names (tree.Println value) h = h
+stands_on_after base names (tree.Return value) h = h
 
 -- without the inner ones the names are as before
 pub drop_inner : (base names : TypedNames) → StandsOn base names

@@ -175,6 +175,7 @@ expr_resolved context names tree.Pop = where_kept context.pops
     (Ok (record { kind = Int; value = tree.Pop }))
 expr_resolved context names (tree.Peek index) =
     result_and_then (expr_resolved context names index) (λ index'. peek_typed context.pops index')
+expr_resolved context names (tree.Call name arguments) = Err refused.TypeMismatch
 expr_resolved context names (tree.Group inner) =
     result_and_then (expr_resolved context names inner) (λ inner'. Ok (group_typed inner'))
 expr_resolved context names (tree.Unary operator operand) =
@@ -350,6 +351,7 @@ abbrev mutual
   stmt_resolved context names outer (tree.Println value) =
       result_and_then (given_resolved context names context.prints value)
       (λ value'. Ok (tree.Println value'))
+  stmt_resolved context names outer (tree.Return value) = Err refused.TypeMismatch
 
   -- the statements of a block, each among the names that are declared before it
   pub stmts_resolved : Context → TypedNames → (outer : ℕ) → tree.Stmts
@@ -473,6 +475,8 @@ member_resolved constants input output fields before (tree.Work rates block) =
     result_and_then (work_resolved constants input output fields
     (record { rates = rates; block = block })) (λ work'.
     Ok (tree.Work work'.rates work'.block))
+member_resolved constants input output fields before (tree.Helper kind name parameters block) =
+    Err refused.TypeMismatch
 
 -- the members, in order of the text
 abbrev pub members_resolved : (constants : List (List ℕ × ℤ)) (input output : ItemType)
@@ -491,6 +495,7 @@ prework_count (tree.Fields kind variables ∷ rest) = prework_count rest
 prework_count (tree.Init block ∷ rest) = prework_count rest
 prework_count (tree.Prework rates block ∷ rest) = 1 + prework_count rest
 prework_count (tree.Work rates block ∷ rest) = prework_count rest
+prework_count (tree.Helper kind name parameters block ∷ rest) = prework_count rest
 
 -- how many `init`s there are
 abbrev pub init_count : List tree.Member → ℕ
@@ -499,6 +504,7 @@ init_count (tree.Fields kind variables ∷ rest) = init_count rest
 init_count (tree.Init block ∷ rest) = 1 + init_count rest
 init_count (tree.Prework rates block ∷ rest) = init_count rest
 init_count (tree.Work rates block ∷ rest) = init_count rest
+init_count (tree.Helper kind name parameters block ∷ rest) = init_count rest
 
 -- whether there is one work, and at most one prework and one `init`
 abbrev pub has_parts : List tree.Member → Bool

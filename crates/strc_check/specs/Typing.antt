@@ -54,3 +54,5 @@ names_after_fields names (tree.Fields kind variables ∷ rest) =
 names_after_fields names (tree.Init block ∷ rest) = names_after_fields names rest
 names_after_fields names (tree.Prework rates block ∷ rest) = names_after_fields names rest
 names_after_fields names (tree.Work rates block ∷ rest) = names_after_fields names rest
+names_after_fields names (tree.Helper kind name parameters block ∷ rest) =
+    names_after_fields names rest

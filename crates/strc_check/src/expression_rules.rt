@@ -50,6 +50,7 @@ pub fn resolve_expr(
             let index = resolve_expr(alloc, context, names, index)?;
             typed::peek(alloc, context.pops, index)
         }
+        Expr::Call(_, _) => Err(LowerError::mismatch(Mismatch::HelperFunction)),
         Expr::Group(inner) => {
             let inner = resolve_expr(alloc, context, names, inner)?;
             typed::group(alloc, inner)

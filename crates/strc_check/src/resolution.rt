@@ -145,6 +145,7 @@ fn resolve_member(
             let work = resolve_work(alloc, input, output, constants, fields, rates, block)?;
             Ok(Member::Work(work.rates, work.block))
         }
+        Member::Helper(_, _, _, _) => Err(LowerError::mismatch(Mismatch::HelperFunction)),
     }
 }
 

@@ -73,6 +73,10 @@ pub enum Mismatch {
     NoPrinting,
     /// A rate above 0 on a side without items.
     RateWithoutItems,
+    /// A helper function, or a call of one: they are read, but can't be run yet.
+    HelperFunction,
+    /// `return` outside of a helper function.
+    NoHelper,
     /// A statement of composite streams in a filter.
     StreamStatement,
     /// A statement of filters in a composite stream.

@@ -91,6 +91,7 @@ pub(crate) fn resolve_stmt(
         Stmt::Push(value) => { Ok(Stmt::Push(check_pushed(alloc, context, names, value)?)) }
         Stmt::Print(value) => { Ok(Stmt::Print(check_printed(alloc, context, names, value)?)) }
         Stmt::Println(value) => { Ok(Stmt::Println(check_printed(alloc, context, names, value)?)) }
+        Stmt::Return(_) => Err(LowerError::mismatch(Mismatch::NoHelper)),
         Stmt::Placed(place, inner) => {
             let resolved = resolve_stmt(alloc, context, names, start, inner);
             let statement = placed(Some(*place), resolved)?;

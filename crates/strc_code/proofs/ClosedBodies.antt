@@ -15,6 +15,7 @@ work_closed names (tree.Fields kind variables ∷ rest) h = work_closed names re
 work_closed names (tree.Init block ∷ rest) h = work_closed names rest h.1
 work_closed names (tree.Prework rates block ∷ rest) h = work_closed names rest h.1
 work_closed names (tree.Work rates block ∷ rest) h = h.0
+work_closed names (tree.Helper kind name parameters block ∷ rest) h = work_closed names rest h.1
 
 -- a block, where there is one
 abbrev IsClosedBlock : Scope → Option tree.Stmts → Type 0
@@ -28,6 +29,8 @@ prework_closed names (tree.Fields kind variables ∷ rest) h = prework_closed na
 prework_closed names (tree.Init block ∷ rest) h = prework_closed names rest h.1
 prework_closed names (tree.Prework rates block ∷ rest) h = h.0
 prework_closed names (tree.Work rates block ∷ rest) h = prework_closed names rest h.1
+prework_closed names (tree.Helper kind name parameters block ∷ rest) h =
+    prework_closed names rest h.1
 
 either_closed : (names : Scope) (first : Option tree.Stmts) (other : tree.Stmts)
     → IsClosedBlock names first → AreClosed names other → AreClosed names (unwrap_or first other)

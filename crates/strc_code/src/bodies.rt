@@ -80,7 +80,10 @@ fn work_block(members: &[Member]) -> &[Stmt]
     for member in members {
         match member {
             Member::Work(_, block) => return block,
-            Member::Fields(_) | Member::Init(_) | Member::Prework(_, _) => {}
+            Member::Fields(_)
+            | Member::Init(_)
+            | Member::Prework(_, _)
+            | Member::Helper(_, _, _, _) => {}
         }
     }
     &[]
@@ -94,7 +97,8 @@ fn prework_block(members: &[Member]) -> Option<&[Stmt]>
     for member in members {
         match member {
             Member::Prework(_, block) => return Some(block),
-            Member::Fields(_) | Member::Init(_) | Member::Work(_, _) => {}
+            Member::Fields(_) | Member::Init(_) | Member::Work(_, _) | Member::Helper(_, _, _, _) =>
+                {}
         }
     }
     None
@@ -207,6 +211,7 @@ fn stmt_prints(statement: &Stmt) -> bool
             stmt_prints(first) || stmt_prints(step) || stmt_prints(body)
         }
         Stmt::Empty
+        | Stmt::Return(_)
         | Stmt::Compose(_)
         | Stmt::Declare(_)
         | Stmt::Evaluate(_)

@@ -161,6 +161,9 @@ mutual
   stmt_kept setting P keeps names outer (tree.Println value) progress kept =
       stored_kept setting P keeps (simple_done setting.place names outer (tree.Println value))
       progress kept
+  stmt_kept setting P keeps names outer (tree.Return value) progress kept =
+      stored_kept setting P keeps (simple_done setting.place names outer (tree.Return value))
+      progress kept
   stmt_kept setting P keeps names outer (tree.Compose statement) progress kept =
       keeps.composed names statement progress kept
 

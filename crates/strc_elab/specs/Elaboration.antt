@@ -345,6 +345,8 @@ abbrev mutual
       on_store (simple_done setting.place names outer (tree.Print value)) progress
   stmt_run setting names outer (tree.Println value) progress =
       on_store (simple_done setting.place names outer (tree.Println value)) progress
+  stmt_run setting names outer (tree.Return value) progress =
+      on_store (simple_done setting.place names outer (tree.Return value)) progress
   stmt_run setting names outer (tree.Compose statement) progress =
       composed setting names statement progress
 

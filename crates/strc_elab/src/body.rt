@@ -172,7 +172,7 @@ impl<F: Fn(Task) -> Result<Elaborated, ElabError>> Body<'_, F> {
             Stmt::For(first, condition, step, body) => {
                 self.for_loop(first, condition.as_ref(), step, body, progress)
             }
-            Stmt::Push(_) | Stmt::Print(_) | Stmt::Println(_) => {
+            Stmt::Push(_) | Stmt::Print(_) | Stmt::Println(_) | Stmt::Return(_) => {
                 self.mismatch(Mismatch::FilterStatement)
             }
             Stmt::Compose(composition) => self.compose(composition, progress),

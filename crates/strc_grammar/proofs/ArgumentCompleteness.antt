@@ -1,6 +1,6 @@
 -- Arguments, parameters and types of streams are read again.
-use Rattle.std.proofs.Common.{◌≡◌, ℕ, ◌+◌, max, false, List, [], ◌∷◌, length, Option, Some, None}
-use Rattle.std.proofs.Common.{Ok, refl, arith}
+use Rattle.std.proofs.Common.{◌≡◌, ℕ, ◌+◌, false, List, [], ◌∷◌, length, Option, Some, None, Ok}
+use Rattle.std.proofs.Common.{refl, arith}
 use Rattle.std.specs.List.{AllByRecursion}
 use Rattle.strc_lex.specs.declared.token.TokenKind.{TokenKind}
 use Rattle.strc_lex.specs.declared.token.TokenKind.TheVariants as token
@@ -14,84 +14,27 @@ use Rattle.strc_syntax.specs.declared.tree.CompositeKind.TheVariants as composit
 use Rattle.strc_syntax.specs.declared.tree.Brackets.{Brackets}
 use Rattle.strc_syntax.specs.declared.tree.Brackets.TheVariants as brackets
 use Rattle.strc_syntax.specs.Tree as tree
-use Rattle.strc_grammar.specs.Grammar.{expr_spelled, each_spelled, brackets_spelled}
-use Rattle.strc_grammar.specs.Grammar.{next_argument_spelled, listed_spelled, arguments_spelled}
+use Rattle.strc_grammar.specs.Grammar.{each_spelled, brackets_spelled, arguments_spelled}
 use Rattle.strc_grammar.specs.Grammar.{kind_keyword, type_keyword, stream_type_spelled}
 use Rattle.strc_grammar.specs.Grammar.{int_items_spelled, file_spelled, parameter_spelled}
 use Rattle.strc_grammar.specs.Grammar.{next_parameter_spelled, listed_parameters_spelled}
-use Rattle.strc_grammar.specs.Grammar.{parameters_spelled, IsExpr, AreArguments, expr_height}
+use Rattle.strc_grammar.specs.Grammar.{parameters_spelled, AreArguments, expr_height}
 use Rattle.strc_grammar.specs.Grammar.{arguments_height, highest}
 use Rattle.strc_grammar.specs.Reading.{is_punctuation, is_keyword, expect, expect_keyword, name}
-use Rattle.strc_grammar.specs.Reading.{text, no_comma, next_argument, more_arguments}
-use Rattle.strc_grammar.specs.Reading.{listed_arguments, arguments, empty_brackets, parameter}
+use Rattle.strc_grammar.specs.Reading.{text, no_comma, arguments, empty_brackets, parameter}
 use Rattle.strc_grammar.specs.Reading.{next_parameter, more_parameters, listed_parameters}
 use Rattle.strc_grammar.specs.Reading.{parameters, item_type, stream_type, composite_kind}
-use Rattle.strc_grammar.specs.Reading.{int_items, bracketed_text, file}
+use Rattle.strc_grammar.specs.Reading.{int_items, bracketed_text, file, closed_parameters}
 use Rattle.strc_grammar.proofs.Completeness.{Complete, Complete-then, expect_punctuation}
-use Rattle.strc_grammar.proofs.ExpressionCompleteness.{expr_length, expression_completeness, found}
-use Rattle.strc_grammar.proofs.Lists.{TallCompleteness, each_taller_completeness, ItemCompleteness}
-use Rattle.strc_grammar.proofs.Lists.{each_completeness}
-use Rattle.strc_grammar.proofs.VariableCompleteness.{Ends, Ends-bracket, Ends-comma, Complete-max}
-use Rattle.strc_grammar.proofs.VariableCompleteness.{Complete-done}
-use Rattle.strc_grammar.proofs.SimpleCompleteness.{opens}
-
-no_comma_bracket : (rest : List TokenKind)
-    → no_comma (token.Punctuation punctuation.CloseParen ∷ rest)
-    ≡ Some (token.Punctuation punctuation.CloseParen ∷ rest)
-unfolding no_comma is_punctuation
-no_comma_bracket rest = refl
+use Rattle.strc_grammar.proofs.Completeness.{Complete-done}
+use Rattle.strc_grammar.proofs.ListedCompleteness.{found, closed_arguments_completeness}
+use Rattle.strc_grammar.proofs.ListedCompleteness.{no_comma_bracket}
+use Rattle.strc_grammar.proofs.Lists.{ItemCompleteness, each_completeness}
+use Rattle.strc_grammar.proofs.ExpressionCompleteness.{expressions_read}
 
 -- ---- arguments
 
 module _ (d : ℕ) where
-  abbrev IsNextCompleteness : tree.Expr → Type 0
-  IsNextCompleteness e = TallCompleteness next_argument_spelled expr_height
-      (next_argument d) no_comma Ends d e
-
-  next_completeness : (e : tree.Expr) → IsExpr e → IsNextCompleteness e
-  unfolding next_argument no_comma is_punctuation
-  next_completeness e shape = record {
-    reads = λ rest ends. expression_completeness e shape d rest ends.stops;
-    stays = λ rest. refl;
-    follows = λ rest. Ends-comma (expr_spelled e rest);
-    long = λ rest. omega (arith, expr_length e rest);
-  }
-
-  nexts_completeness : (others : List tree.Expr) → AllByRecursion IsExpr others
-      → AllByRecursion IsNextCompleteness others
-  nexts_completeness [] shape = tt
-  nexts_completeness (e ∷ others) shape =
-      (next_completeness e shape.0, nexts_completeness others shape.1)
-
-  follow : (others : List tree.Expr) → AllByRecursion IsNextCompleteness others
-      → (rest : List TokenKind) → Ends rest → Ends (each_spelled next_argument_spelled others rest)
-  follow [] complete rest ends = ends
-  follow (e ∷ others) complete rest ends =
-      complete.0.follows (each_spelled next_argument_spelled others rest)
-
-  listed_completeness : (es : List tree.Expr) → AllByRecursion IsExpr es → (rest : List TokenKind)
-      → Complete d (highest expr_height es)
-      ((es, highest expr_height es), token.Punctuation punctuation.CloseParen ∷ rest)
-      (listed_arguments d (listed_spelled es (token.Punctuation punctuation.CloseParen ∷ rest)))
-  unfolding listed_arguments more_arguments is_punctuation
-  listed_completeness [] shape rest = Complete-done d 0
-      (([], 0), token.Punctuation punctuation.CloseParen ∷ rest) _ (omega arith) refl
-  listed_completeness (e ∷ others) shape rest =
-      let end : List TokenKind = token.Punctuation punctuation.CloseParen ∷ rest in
-      let past = each_spelled next_argument_spelled others end in
-      let high : ℕ = max (expr_height e) (highest expr_height others) in
-      let complete = nexts_completeness others shape.1 in
-      let follows : Ends past = follow others complete end (Ends-bracket rest) in
-      let stays : is_punctuation punctuation.CloseParen (expr_spelled e past) ≡ false =
-      (opens e past).no_bracket in
-      rw stays (Complete-then d (expr_height e) high (found e past) ((e ∷ others, high), end) _ _
-      (expression_completeness e shape.0 d past follows.stops) (omega arith)
-      (λ low. Complete-max d (expr_height e) (highest expr_height others)
-      ((e ∷ others, high), end) _ low
-      (each_taller_completeness next_argument_spelled expr_height
-      (next_argument d) no_comma Ends d others complete (e ∷ []) (expr_height e)
-      (length past + 1) end end (no_comma_bracket rest) (Ends-bracket rest) (omega arith))))
-
   -- before a semicolon
   pub arguments_completeness : (given : Option (List tree.Expr)) → AreArguments given
       → (rest : List TokenKind)
@@ -105,10 +48,9 @@ module _ (d : ℕ) where
   arguments_completeness (Some es) shape rest =
       let after : List TokenKind = token.Punctuation punctuation.Semicolon ∷ rest in
       let high : ℕ = highest expr_height es in
-      Complete-then d high high ((es, high), token.Punctuation punctuation.CloseParen ∷ after)
-      (Some es, high, after) _ _ (listed_completeness es shape after) (omega arith)
-      (λ low. rw (expect_punctuation punctuation.CloseParen after)
-      (Complete-done d high (Some es, high, after) _ low refl))
+      Complete-then d high high (es, high, after) (Some es, high, after) _ _
+      (closed_arguments_completeness d es (expressions_read es shape) after) (omega arith)
+      (λ low. Complete-done d high (Some es, high, after) _ low refl)
 
 pub brackets_completeness : (pair : Brackets) (rest : List TokenKind)
     → empty_brackets (brackets_spelled pair (token.Punctuation punctuation.Semicolon ∷ rest))
@@ -162,6 +104,14 @@ listed_parameters_completeness (x ∷ others) rest =
     (omega (arith, no_height others)) in
     rw (parameter_completeness x past) more
 
+-- with the bracket
+pub closed_parameters_completeness : (xs : List (List ℕ)) (rest : List TokenKind)
+    → closed_parameters (listed_parameters_spelled xs
+    (token.Punctuation punctuation.CloseParen ∷ rest)) ≡ Ok (xs, rest)
+unfolding closed_parameters
+closed_parameters_completeness xs rest =
+    rw (listed_parameters_completeness xs rest, expect_punctuation punctuation.CloseParen rest) refl
+
 -- before a brace
 pub parameters_completeness : (given : Option (List (List ℕ))) (rest : List TokenKind)
     → parameters (parameters_spelled given (token.Punctuation punctuation.OpenBrace ∷ rest))
@@ -170,8 +120,7 @@ unfolding parameters is_punctuation
 parameters_completeness None rest = refl
 parameters_completeness (Some xs) rest =
     let after : List TokenKind = token.Punctuation punctuation.OpenBrace ∷ rest in
-    rw (listed_parameters_completeness xs after, expect_punctuation punctuation.CloseParen after)
-    refl
+    rw (closed_parameters_completeness xs after) refl
 
 -- ---- types of streams
 

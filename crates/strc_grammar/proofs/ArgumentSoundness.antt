@@ -1,8 +1,7 @@
 -- What is read as arguments, parameters or the type of a stream is that, and these are its tokens.
 use Rattle.std.proofs.Common.{◌≡◌, ℕ, suc, ◌+◌, ◌≤◌, List, [], ◌∷◌, ◌++◌, length, Option, Some}
-use Rattle.std.proofs.Common.{None, Ok, refl, sym, ap, subst, ◌∙◌, arith, inl, inr}
+use Rattle.std.proofs.Common.{None, Ok, refl, sym, ap, ◌∙◌, arith, inl, inr}
 use Rattle.std.proofs.lemmas.Bool.{cases_Bool}
-use Rattle.std.specs.List.{AllByRecursion}
 use Rattle.strc_lex.specs.declared.token.TokenKind.{TokenKind}
 use Rattle.strc_lex.specs.declared.token.TokenKind.TheVariants as token
 use Rattle.strc_lex.specs.declared.token.Keyword.TheVariants as keyword
@@ -13,134 +12,30 @@ use Rattle.strc_syntax.specs.declared.tree.CompositeKind.TheVariants as composit
 use Rattle.strc_syntax.specs.declared.tree.Brackets.{Brackets}
 use Rattle.strc_syntax.specs.declared.tree.Brackets.TheVariants as pair
 use Rattle.strc_syntax.specs.Tree as tree
-use Rattle.strc_grammar.specs.Grammar.{expr_spelled, brackets_spelled, next_argument_spelled}
-use Rattle.strc_grammar.specs.Grammar.{listed_spelled, arguments_spelled, kind_keyword}
+use Rattle.strc_grammar.specs.Grammar.{brackets_spelled, arguments_spelled, kind_keyword}
 use Rattle.strc_grammar.specs.Grammar.{type_keyword, stream_type_spelled, int_items_spelled}
 use Rattle.strc_grammar.specs.Grammar.{file_spelled, parameter_spelled, next_parameter_spelled}
-use Rattle.strc_grammar.specs.Grammar.{listed_parameters_spelled, parameters_spelled}
-use Rattle.strc_grammar.specs.Grammar.{lowest_precedence, IsExpr, AreArguments, expr_height}
-use Rattle.strc_grammar.specs.Grammar.{arguments_height, highest}
-use Rattle.strc_grammar.specs.Reading.{◌>>=◌, tail, is_punctuation, expect, text, expression}
-use Rattle.strc_grammar.specs.Reading.{repeated, one_more, one_taller, no_comma, next_argument}
-use Rattle.strc_grammar.specs.Reading.{more_arguments, listed_arguments, arguments, empty_brackets}
-use Rattle.strc_grammar.specs.Reading.{name, parameter, next_parameter, more_parameters}
-use Rattle.strc_grammar.specs.Reading.{listed_parameters, parameters, item_type, stream_type}
-use Rattle.strc_grammar.specs.Reading.{composite_kind, int_items, bracketed_text, file}
-use Rattle.strc_grammar.proofs.ExpressionCompleteness.{expr_length}
-use Rattle.strc_grammar.proofs.StatementCompleteness.{listed_length}
-use Rattle.strc_grammar.proofs.ProgramCompleteness.{listed_parameters_length}
+use Rattle.strc_grammar.specs.Grammar.{listed_parameters_spelled, parameters_spelled, AreArguments}
+use Rattle.strc_grammar.specs.Grammar.{arguments_height}
+use Rattle.strc_grammar.specs.Reading.{tail, is_punctuation, text, expression, repeated, one_more}
+use Rattle.strc_grammar.specs.Reading.{no_comma, arguments, empty_brackets, name, parameter}
+use Rattle.strc_grammar.specs.Reading.{next_parameter, more_parameters, listed_parameters}
+use Rattle.strc_grammar.specs.Reading.{parameters, item_type, stream_type, composite_kind}
+use Rattle.strc_grammar.specs.Reading.{int_items, bracketed_text, file, Below, closed_arguments}
+use Rattle.strc_grammar.specs.Reading.{closed_parameters}
+use Rattle.strc_grammar.proofs.StatementCompleteness.{listed_parameters_length}
 use Rattle.strc_grammar.proofs.Soundness.{Sound, Sound-then, Sound-on, Sound-expect}
 use Rattle.strc_grammar.proofs.Soundness.{Sound-expect_keyword, Sound-last, name_soundness, Stopped}
 use Rattle.strc_grammar.proofs.Soundness.{repeated_soundness, punctuation_is, each_spelled-push}
-use Rattle.strc_grammar.proofs.Soundness.{highest-push, All-push}
-use Rattle.strc_grammar.proofs.ExpressionSoundness.{ExprRead, expression_soundness}
-use Rattle.strc_grammar.proofs.SimpleSoundness.{comma_is, no_comma_is}
+use Rattle.strc_grammar.proofs.Soundness.{comma_is, no_comma_is}
+use Rattle.strc_grammar.proofs.ExpressionSoundness.{expression_soundness}
+use Rattle.strc_grammar.proofs.ListedSoundness.{IsSome, IsSome-push, ClosedListRead}
+use Rattle.strc_grammar.proofs.ListedSoundness.{closed_arguments_soundness}
 
 abbrev count : List TokenKind → ℕ
 count ts = length ts
 
--- a list with an item at least
-abbrev IsSome : {A : Type 0} → List A → Type 0
-IsSome [] = ⊥
-IsSome (a ∷ others) = Unit {0}
-
-IsSome-push : {A : Type 0} (front : List A) (a : A) → IsSome (front ++ a ∷ [])
-IsSome-push [] a = tt
-IsSome-push (x ∷ front) a = tt
-
 -- ---- arguments
-
-listed_spelled-push : (front : List tree.Expr) (e : tree.Expr) (rest : List TokenKind)
-    → IsSome front → listed_spelled (front ++ e ∷ []) rest
-    ≡ listed_spelled front (next_argument_spelled e rest)
-listed_spelled-push [] e rest some = absurd some
-listed_spelled-push (x ∷ front) e rest some =
-    ap (expr_spelled x) (each_spelled-push next_argument_spelled front e rest)
-
--- the arguments so far, the height of the highest, and what follows them
-record ListedRead (depth : ℕ) (all : List TokenKind) (so_far : List tree.Expr × ℕ)
-    (rest : List TokenKind) : Type 0 where
-  spelled : all ≡ listed_spelled so_far.0 rest
-  shape : AllByRecursion IsExpr so_far.0
-  high : so_far.1 ≡ highest expr_height so_far.0
-  low : so_far.1 ≤ depth
-
-module _ (depth : ℕ) (all : List TokenKind) where
-  abbrev Kept : List tree.Expr × ℕ → List TokenKind → Type 0
-  Kept so_far rest = ListedRead depth all so_far rest × IsSome so_far.0
-
-  next_soundness : (so_far : List tree.Expr × ℕ) (tokens : List TokenKind) → Kept so_far tokens
-      → length tokens ≤ length all → no_comma tokens ≡ None
-      → Sound (λ x. Kept x.0 x.1 × (length x.1 ≤ length all)) depth all
-      (one_taller (next_argument depth) so_far tokens)
-  unfolding one_taller next_argument
-  next_soundness so_far tokens kept le goes =
-      let starts = comma_is tokens goes in
-      let one : length tokens ≡ suc (length (tail tokens)) = ap count starts in
-      Sound-then (ExprRead depth lowest_precedence (tail tokens))
-      (λ x. Kept x.0 x.1 × (length x.1 ≤ length all)) depth all
-      (expression depth lowest_precedence (tail tokens)) _
-      (Sound-on (ExprRead depth lowest_precedence (tail tokens))
-      (ExprRead depth lowest_precedence (tail tokens)) depth depth (tail tokens) all
-      (expression depth lowest_precedence (tail tokens)) (omega arith) (omega arith)
-      (expression_soundness depth lowest_precedence (tail tokens)) (λ x h. h)) (λ x read. (
-        (
-          record {
-            spelled = kept.0.spelled ∙ ap (λ (ts : List TokenKind). listed_spelled so_far.0 ts)
-                (starts ∙ ap (λ (ts : List TokenKind). token.Punctuation punctuation.Comma ∷ ts)
-                read.spelled)
-                ∙ sym (listed_spelled-push so_far.0 x.0 x.2 kept.1);
-            shape = All-push IsExpr so_far.0 x.0 kept.0.shape read.shape;
-            high = omega (arith, kept.0.high, read.high, highest-push expr_height so_far.0 x.0);
-            low = omega (arith, kept.0.low, read.low);
-          },
-          IsSome-push so_far.0 x.0,
-        ),
-        omega (arith, ap count read.spelled, expr_length x.0 x.2),
-      ))
-
-  more_soundness : (so_far : List tree.Expr × ℕ) (tokens : List TokenKind) → Kept so_far tokens
-      → length tokens ≤ length all
-      → Sound (λ x. ListedRead depth all x.0 x.1) depth all (more_arguments depth so_far tokens)
-  unfolding more_arguments
-  more_soundness so_far tokens kept le =
-      Sound-on (Stopped no_comma (one_taller (next_argument depth)) Kept depth all)
-      (λ x. ListedRead depth all x.0 x.1) depth depth all all
-      (repeated no_comma (one_taller (next_argument depth)) (length tokens + 1) so_far tokens)
-      (omega arith) (omega arith)
-      (repeated_soundness no_comma (one_taller (next_argument depth)) Kept depth all next_soundness
-      (length tokens + 1) so_far tokens kept le)
-      (λ x stopped. subst (λ (ts : List TokenKind). ListedRead depth all x.0 ts)
-      (no_comma_is stopped.0 x.1 stopped.2) stopped.1.0)
-
-listed_soundness : (depth : ℕ) (tokens : List TokenKind)
-    → Sound (λ x. ListedRead depth tokens x.0 x.1) depth tokens (listed_arguments depth tokens)
-unfolding listed_arguments
-listed_soundness depth tokens =
-    let Q : (List tree.Expr × ℕ) × List TokenKind → Type 0 = λ x. ListedRead depth tokens x.0 x.1 in
-    elim (cases_Bool (is_punctuation punctuation.CloseParen tokens)) [
-      | inl is ↦
-          let none : Q (([], 0), tokens) =
-          record { spelled = refl; shape = tt; high = refl; low = omega arith } in
-          rw is none
-      | inr is ↦
-          let read = Sound-then (ExprRead depth lowest_precedence tokens) Q depth tokens
-          (expression depth lowest_precedence tokens)
-          (λ e. more_arguments depth (e.0 ∷ [], e.1) e.2)
-          (expression_soundness depth lowest_precedence tokens) (λ x e.
-          more_soundness depth tokens (x.0 ∷ [], x.1) x.2 (
-            record {
-              spelled = e.spelled;
-              shape = (e.shape, tt);
-              high =
-                  omega (arith, e.high);
-              low = e.low;
-            },
-            tt,
-          )
-          (omega (arith, ap count e.spelled, expr_length x.0 x.2))) in
-          rw is read
-    ]
 
 -- arguments or nothing, the height of the highest, and what follows them
 pub record ArgumentsRead (depth : ℕ) (tokens : List TokenKind)
@@ -160,22 +55,19 @@ arguments_soundness depth tokens =
           let starts = punctuation_is punctuation.OpenParen tokens is in
           let inside : List TokenKind = tail tokens in
           let one : length tokens ≡ suc (length inside) = ap count starts in
-          let read = Sound-then (λ x. ListedRead depth inside x.0 x.1) Q depth tokens
-          (listed_arguments depth inside)
-          (λ listed. expect punctuation.CloseParen listed.1 >>= λ rest. Ok
-          (Some listed.0.0, listed.0.1, rest))
-          (Sound-on (λ x. ListedRead depth inside x.0 x.1)
-          (λ x. ListedRead depth inside x.0 x.1) depth depth inside tokens
-          (listed_arguments depth inside) (omega arith) (omega arith)
-          (listed_soundness depth inside) (λ x h. h)) (λ x listed.
-          Sound-expect Q depth tokens punctuation.CloseParen x.1 _
-          (omega (arith, ap count listed.spelled, listed_length x.0.0 x.1)) (λ rest e. record {
+          let P : List tree.Expr × ℕ × List TokenKind → Type 0 = ClosedListRead depth inside in
+          let below : Below = expression depth in
+          let read = Sound-then P Q depth tokens (closed_arguments below inside)
+          (λ listed. Ok (Some listed.0, listed.1, listed.2))
+          (Sound-on P P depth depth inside tokens (closed_arguments below inside) (omega arith)
+          (omega arith) (closed_arguments_soundness depth below
+          (λ r ts. expression_soundness depth r ts) inside) (λ x h. h)) (λ x listed. record {
             spelled = starts ∙ ap (λ (ts : List TokenKind). token.Punctuation punctuation.OpenParen
-                ∷ ts) (listed.spelled ∙ ap (λ (ts : List TokenKind). listed_spelled x.0.0 ts) e);
+                ∷ ts) listed.spelled;
             shape = listed.shape;
             high = listed.high;
             low = listed.low;
-          })) in
+          }) in
           rw is read
       | inr is ↦
           let none : Q (None, 0, tokens) =
@@ -369,6 +261,22 @@ module _ (deep : ℕ) where
             rw is read
       ]
 
+  pub closed_parameters_soundness : (tokens : List TokenKind)
+      → Sound (λ x. tokens ≡ listed_parameters_spelled x.0
+      (token.Punctuation punctuation.CloseParen ∷ x.1)) deep tokens (closed_parameters tokens)
+  unfolding closed_parameters
+  closed_parameters_soundness tokens =
+      let P : List (List ℕ) × List TokenKind → Type 0 =
+      λ x. tokens ≡ listed_parameters_spelled x.0 x.1 in
+      let Q : List (List ℕ) × List TokenKind → Type 0 =
+      λ x. tokens ≡ listed_parameters_spelled x.0
+      (token.Punctuation punctuation.CloseParen ∷ x.1) in
+      Sound-then P Q deep tokens (listed_parameters tokens) _
+      (listed_parameters_soundness tokens) (λ x listed.
+      Sound-expect Q deep tokens punctuation.CloseParen x.1 _
+      (omega (arith, ap count listed, listed_parameters_length x.0 x.1)) (λ rest e.
+      listed ∙ ap (λ (ts : List TokenKind). listed_parameters_spelled x.0 ts) e))
+
   pub parameters_soundness : (tokens : List TokenKind)
       → Sound (λ x. tokens ≡ parameters_spelled x.0 x.1) deep tokens (parameters tokens)
   unfolding parameters
@@ -381,15 +289,14 @@ module _ (deep : ℕ) where
             let inside : List TokenKind = tail tokens in
             let one : length tokens ≡ suc (length inside) = ap count starts in
             let P : List (List ℕ) × List TokenKind → Type 0 =
-            λ x. inside ≡ listed_parameters_spelled x.0 x.1 in
-            let read = Sound-then P Q deep tokens (listed_parameters inside)
-            (λ x. expect punctuation.CloseParen x.1 >>= λ rest. Ok (Some x.0, rest))
-            (Sound-on P P deep deep inside tokens (listed_parameters inside) (omega arith)
-            (omega arith) (listed_parameters_soundness inside) (λ x h. h)) (λ x listed.
-            Sound-expect Q deep tokens punctuation.CloseParen x.1 _
-            (omega (arith, ap count listed, listed_parameters_length x.0 x.1)) (λ rest e.
+            λ x. inside ≡ listed_parameters_spelled x.0
+            (token.Punctuation punctuation.CloseParen ∷ x.1) in
+            let read = Sound-then P Q deep tokens (closed_parameters inside)
+            (λ x. Ok (Some x.0, x.1))
+            (Sound-on P P deep deep inside tokens (closed_parameters inside) (omega arith)
+            (omega arith) (closed_parameters_soundness inside) (λ x h. h)) (λ x listed.
             starts ∙ ap (λ (ts : List TokenKind). token.Punctuation punctuation.OpenParen ∷ ts)
-            (listed ∙ ap (λ (ts : List TokenKind). listed_parameters_spelled x.0 ts) e))) in
+            listed) in
             rw is read
         | inr is ↦
             let none : Q (None, tokens) = refl in

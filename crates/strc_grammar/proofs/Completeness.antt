@@ -1,7 +1,7 @@
 -- Reading a spelled tree again: it is read where its height is within the depth, and else nests too
 -- deep.
-use Rattle.std.proofs.Common.{◌≡◌, ℕ, suc, ◌+◌, ◌<◌, ◌≤◌, List, ◌∷◌, Result, Ok, Err, refl, arith}
-use Rattle.std.proofs.Common.{inl, inr}
+use Rattle.std.proofs.Common.{◌≡◌, ℕ, suc, ◌+◌, ◌<◌, ◌≤◌, max, List, ◌∷◌, Result, Ok, Err, refl}
+use Rattle.std.proofs.Common.{arith, inl, inr}
 use Rattle.std.proofs.lemmas.Bool.{cases_lt, lt-ltb, le-ltb}
 use denote.Enum.Bare.{true_same}
 use Rattle.strc_lex.specs.contracts.token.Punctuation.{the_type as punctuation_type}
@@ -73,3 +73,13 @@ Complete-raised depth height y f e = record {
   fits = λ h. let lt : height < depth = omega arith in rw (raised_low depth height lt) e;
   over = λ h. let le : depth ≤ height = omega arith in rw (raised_high depth height le) refl;
 }
+
+-- the higher of two parts that were read
+pub Complete-max : (d low high : ℕ) {Y : Type 0} (y : Y) (read : Result Y Fault) → low ≤ d →
+    Complete d high y read → Complete d (max low high) y read
+Complete-max d low high y read le complete = record
+    { fits = λ h. complete.fits (omega arith); over = λ h. complete.over (omega arith) }
+
+pub Complete-done : (d height : ℕ) {Y : Type 0} (y : Y) (read : Result Y Fault) → height ≤ d → read
+    ≡ Ok y → Complete d height y read
+Complete-done d height y read le e = record { fits = λ h. e; over = λ h. absurd (omega arith) }

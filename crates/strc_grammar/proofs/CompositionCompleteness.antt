@@ -30,9 +30,10 @@ use Rattle.strc_grammar.specs.Streams.{splitter, split, join, enqueue, compositi
 use Rattle.strc_grammar.specs.Streams.{keyword_statement, shallow}
 use Rattle.strc_grammar.proofs.Completeness.{Complete, Complete-then, Complete-inside}
 use Rattle.strc_grammar.proofs.Completeness.{Complete-raised, expect_punctuation}
-use Rattle.strc_grammar.proofs.Completeness.{expect_keyword_lem}
-use Rattle.strc_grammar.proofs.ExpressionCompleteness.{Stops-semicolon, closed_completeness, found}
-use Rattle.strc_grammar.proofs.VariableCompleteness.{Complete-done}
+use Rattle.strc_grammar.proofs.Completeness.{expect_keyword_lem, Complete-done}
+use Rattle.strc_grammar.proofs.ExpressionCompleteness.{closed_completeness}
+use Rattle.strc_grammar.proofs.ListedCompleteness.{found}
+use Rattle.strc_grammar.proofs.Stops.{Stops-semicolon}
 use Rattle.strc_grammar.proofs.SimpleCompleteness.{made}
 use Rattle.strc_grammar.proofs.ArgumentCompleteness.{arguments_completeness, brackets_completeness}
 use Rattle.strc_grammar.proofs.ArgumentCompleteness.{stream_type_completeness, kind_read}

@@ -35,7 +35,7 @@ use Rattle.strc_grammar.proofs.StatementCompleteness.{composition_length}
 use Rattle.strc_grammar.proofs.CompositionCompleteness.{inside_height, height_above}
 use Rattle.strc_grammar.proofs.Soundness.{Sound, Sound-then, Sound-on, Sound-expect}
 use Rattle.strc_grammar.proofs.Soundness.{Sound-expect_keyword, Sound-raised}
-use Rattle.strc_grammar.proofs.ExpressionSoundness.{ClosedRead, closed_soundness}
+use Rattle.strc_grammar.proofs.ExpressionRead.{ClosedRead, closed_soundness}
 use Rattle.strc_grammar.proofs.ExpressionSoundness.{expression_soundness}
 use Rattle.strc_grammar.proofs.ArgumentSoundness.{ArgumentsRead, arguments_soundness}
 use Rattle.strc_grammar.proofs.ArgumentSoundness.{brackets_soundness, int_items_soundness}

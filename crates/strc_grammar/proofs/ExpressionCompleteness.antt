@@ -1,292 +1,40 @@
 -- An expression's spelling is read again, whatever stops it.
 use Rattle.std.proofs.Common.{◌≡◌, ℕ, zero, suc, ◌+◌, ◌-◌, ◌<◌, ◌≤◌, max, Bool, true, false, eqb}
-use Rattle.std.proofs.Common.{List, ◌∷◌, length, Option, Some, None, Result, Ok, Err, refl, ap}
+use Rattle.std.proofs.Common.{List, [], ◌∷◌, length, Option, Some, None, Result, Ok, Err, refl, ap}
 use Rattle.std.proofs.Common.{subst, ◌∙◌, arith, inl, inr}
-use Rattle.std.proofs.lemmas.Bool.{cases_lt, ne_eqb, eq-eqb}
-use denote.Enum.Bare.{sameb}
-use Rattle.strc_lex.specs.contracts.token.Punctuation.{the_type as punctuation_type}
+use Rattle.std.proofs.lemmas.Bool.{cases_lt, ne_eqb}
 use Rattle.strc_lex.specs.declared.token.TokenKind.{TokenKind}
 use Rattle.strc_lex.specs.declared.token.TokenKind.TheVariants as token
-use Rattle.strc_lex.specs.declared.token.Keyword.{Keyword}
 use Rattle.strc_lex.specs.declared.token.Punctuation.{Punctuation}
 use Rattle.strc_lex.specs.declared.token.Punctuation.TheVariants as punctuation
 use Rattle.strc_syntax.specs.declared.tree.UnaryOperator.{UnaryOperator}
 use Rattle.strc_syntax.specs.declared.tree.UnaryOperator.TheVariants as unary
 use Rattle.strc_syntax.specs.declared.tree.StepOperator.{StepOperator}
 use Rattle.strc_syntax.specs.declared.tree.StepOperator.TheVariants as step
-use Rattle.strc_syntax.specs.declared.tree.AssignOperator.{AssignOperator}
-use Rattle.strc_syntax.specs.declared.tree.AssignOperator.TheVariants as assign
 use Rattle.strc_syntax.specs.declared.tree.BinaryOperator.{BinaryOperator}
-use Rattle.strc_syntax.specs.declared.tree.BinaryOperator.TheVariants as binary
 use Rattle.strc_grammar.specs.declared.error.Fault.{Fault}
 use Rattle.strc_grammar.specs.declared.error.Fault.TheVariants.{Nesting}
 use Rattle.strc_syntax.specs.Tree as tree
-use Rattle.strc_grammar.specs.Grammar.{binary_punctuation, assign_punctuation, step_spelled}
-use Rattle.strc_grammar.specs.Grammar.{expr_spelled, precedence, lowest_precedence, rank, IsExpr}
-use Rattle.strc_grammar.specs.Grammar.{expr_height}
-use Rattle.strc_syntax.specs.Tree.{read_of, step_of_place}
+use Rattle.strc_grammar.specs.Grammar.{binary_punctuation, step_spelled, expr_spelled, precedence}
+use Rattle.strc_grammar.specs.Grammar.{lowest_precedence, rank, IsExpr, expr_height, AreGiven}
+use Rattle.strc_grammar.specs.Grammar.{listed_spelled, highest}
+use Rattle.strc_syntax.specs.Tree.{read_of, step_of_place, arguments_of}
 use Rattle.strc_grammar.specs.Reading.{◌>>=◌, raised, Below, tail, punctuation_at, is_punctuation}
-use Rattle.strc_grammar.specs.Reading.{binary_of, of_rank, operator, step_of, step_after, closed}
-use Rattle.strc_grammar.specs.Reading.{index, after_place, after_name, name, step_first}
-use Rattle.strc_grammar.specs.Reading.{pop_brackets, peek_brackets, group, sign}
-use Rattle.strc_grammar.specs.Reading.{punctuation_operand, keyword_operand, operand, chain, climb}
-use Rattle.strc_grammar.specs.Reading.{choice, lowest_binary_precedence, conditional, ranked}
-use Rattle.strc_grammar.specs.Reading.{expression}
+use Rattle.strc_grammar.specs.Reading.{of_rank, operator, step_after, closed, index, after_place}
+use Rattle.strc_grammar.specs.Reading.{after_name, name, step_first, pop_brackets, peek_brackets}
+use Rattle.strc_grammar.specs.Reading.{group, sign, punctuation_operand, keyword_operand, operand}
+use Rattle.strc_grammar.specs.Reading.{chain, climb, choice, lowest_binary_precedence, conditional}
+use Rattle.strc_grammar.specs.Reading.{ranked, expression, after_variable, call, closed_arguments}
 use Rattle.strc_grammar.proofs.Completeness.{Complete, Complete-then, Complete-inside}
 use Rattle.strc_grammar.proofs.Completeness.{Complete-leaf, Complete-raised, expect_punctuation}
 use Rattle.strc_grammar.proofs.Completeness.{raised_low, raised_high}
-
--- what follows an expression of this rank and stops it
-pub record Stops (r : ℕ) (rest : List TokenKind) : Type 0 where
-  pub no_step : step_after rest ≡ None
-  pub no_index : is_punctuation punctuation.OpenBracket rest ≡ false
-  pub no_operator : (k : ℕ) → k ≤ r → operator k rest ≡ None
-  pub no_choice : lowest_precedence ≤ r → is_punctuation punctuation.Question rest ≡ false
-
-pub Stops-le : {r : ℕ} {rest : List TokenKind} (k : ℕ) → k ≤ r → Stops r rest → Stops k rest
-Stops-le k le stops = record {
-  no_step = stops.no_step;
-  no_index = stops.no_index;
-  no_operator = λ j h. stops.no_operator j (omega arith);
-  no_choice = λ h. stops.no_choice (omega arith);
-}
-
--- a punctuation mark that is none of an expression's after an operand
-Stops-punctuation : (m : Punctuation) → binary_of m ≡ None → step_of (Some m) ≡ None → sameb
-    punctuation_type m punctuation.OpenBracket ≡ false → sameb punctuation_type m
-    punctuation.Question ≡ false
-    → (r : ℕ) (rest : List TokenKind) → Stops r (token.Punctuation m ∷ rest)
-unfolding step_after operator punctuation_at is_punctuation
-Stops-punctuation m no_binary no_step no_index no_choice r rest =
-    record {
-      no_step = no_step;
-      no_index = no_index;
-      no_operator = λ k h. rw no_binary refl;
-      no_choice = λ h. no_choice;
-    }
-
-pub Stops-semicolon : (r : ℕ) (rest : List TokenKind) → Stops r
-    (token.Punctuation punctuation.Semicolon ∷ rest)
-Stops-semicolon = Stops-punctuation punctuation.Semicolon refl refl refl refl
-
-pub Stops-comma : (r : ℕ) (rest : List TokenKind) → Stops r
-    (token.Punctuation punctuation.Comma ∷ rest)
-Stops-comma = Stops-punctuation punctuation.Comma refl refl refl refl
-
-pub Stops-bracket : (r : ℕ) (rest : List TokenKind) → Stops r
-    (token.Punctuation punctuation.CloseParen ∷ rest)
-Stops-bracket = Stops-punctuation punctuation.CloseParen refl refl refl refl
-
-pub Stops-square : (r : ℕ) (rest : List TokenKind) → Stops r
-    (token.Punctuation punctuation.CloseBracket ∷ rest)
-Stops-square = Stops-punctuation punctuation.CloseBracket refl refl refl refl
-
-pub Stops-colon : (r : ℕ) (rest : List TokenKind) → Stops r
-    (token.Punctuation punctuation.Colon ∷ rest)
-Stops-colon = Stops-punctuation punctuation.Colon refl refl refl refl
-
-pub Stops-brace : (r : ℕ) (rest : List TokenKind) → Stops r
-    (token.Punctuation punctuation.OpenBrace ∷ rest)
-Stops-brace = Stops-punctuation punctuation.OpenBrace refl refl refl refl
-
-pub Stops-assign : (o : AssignOperator) (r : ℕ) (rest : List TokenKind) → Stops r
-    (token.Punctuation (assign_punctuation o) ∷ rest)
-Stops-assign assign.Set = Stops-punctuation punctuation.Assign refl refl refl refl
-Stops-assign assign.Add = Stops-punctuation punctuation.PlusAssign refl refl refl refl
-Stops-assign assign.Subtract = Stops-punctuation punctuation.MinusAssign refl refl refl refl
-Stops-assign assign.Multiply = Stops-punctuation punctuation.StarAssign refl refl refl refl
-Stops-assign assign.Divide = Stops-punctuation punctuation.SlashAssign refl refl refl refl
-Stops-assign assign.Remainder = Stops-punctuation punctuation.PercentAssign refl refl refl refl
-
-pub Stops-keyword : (w : Keyword) (r : ℕ) (rest : List TokenKind) → Stops r (token.Keyword w ∷ rest)
-unfolding step_after operator punctuation_at is_punctuation
-Stops-keyword w r rest = record
-    { no_step = refl; no_index = refl; no_operator = λ k h. refl; no_choice = λ h. refl }
-
--- a question mark stops what has no tighter rank
-Stops-question : (rest : List TokenKind) → Stops lowest_binary_precedence
-    (token.Punctuation punctuation.Question ∷ rest)
-unfolding step_after operator punctuation_at is_punctuation
-Stops-question rest = record {
-  no_step = refl;
-  no_index = refl;
-  no_operator = λ k h. refl;
-  no_choice = λ h. absurd
-      (omega arith);
-}
-
-pub precedence_some : (o : BinaryOperator) → (1 ≤ precedence o) × (precedence o ≤ 10)
-precedence_some binary.LogicalOr = (omega arith, omega arith)
-precedence_some binary.LogicalAnd = (omega arith, omega arith)
-precedence_some binary.Or = (omega arith, omega arith)
-precedence_some binary.ExclusiveOr = (omega arith, omega arith)
-precedence_some binary.And = (omega arith, omega arith)
-precedence_some binary.Equal = (omega arith, omega arith)
-precedence_some binary.NotEqual = (omega arith, omega arith)
-precedence_some binary.Less = (omega arith, omega arith)
-precedence_some binary.LessOrEqual = (omega arith, omega arith)
-precedence_some binary.Greater = (omega arith, omega arith)
-precedence_some binary.GreaterOrEqual = (omega arith, omega arith)
-precedence_some binary.ShiftLeft = (omega arith, omega arith)
-precedence_some binary.ShiftRight = (omega arith, omega arith)
-precedence_some binary.Add = (omega arith, omega arith)
-precedence_some binary.Subtract = (omega arith, omega arith)
-precedence_some binary.Multiply = (omega arith, omega arith)
-precedence_some binary.Divide = (omega arith, omega arith)
-precedence_some binary.Remainder = (omega arith, omega arith)
-
-operator_punctuation : (k : ℕ) (o : BinaryOperator) (rest : List TokenKind) → operator k
-    (token.Punctuation (binary_punctuation o) ∷ rest) ≡ of_rank k (Some o)
-unfolding operator punctuation_at
-operator_punctuation k binary.LogicalOr rest = refl
-operator_punctuation k binary.LogicalAnd rest = refl
-operator_punctuation k binary.Or rest = refl
-operator_punctuation k binary.ExclusiveOr rest = refl
-operator_punctuation k binary.And rest = refl
-operator_punctuation k binary.Equal rest = refl
-operator_punctuation k binary.NotEqual rest = refl
-operator_punctuation k binary.Less rest = refl
-operator_punctuation k binary.LessOrEqual rest = refl
-operator_punctuation k binary.Greater rest = refl
-operator_punctuation k binary.GreaterOrEqual rest = refl
-operator_punctuation k binary.ShiftLeft rest = refl
-operator_punctuation k binary.ShiftRight rest = refl
-operator_punctuation k binary.Add rest = refl
-operator_punctuation k binary.Subtract rest = refl
-operator_punctuation k binary.Multiply rest = refl
-operator_punctuation k binary.Divide rest = refl
-operator_punctuation k binary.Remainder rest = refl
-
-no_step_punctuation : (o : BinaryOperator) (rest : List TokenKind) → step_after
-    (token.Punctuation (binary_punctuation o) ∷ rest) ≡ None
-unfolding step_after punctuation_at
-no_step_punctuation binary.LogicalOr rest = refl
-no_step_punctuation binary.LogicalAnd rest = refl
-no_step_punctuation binary.Or rest = refl
-no_step_punctuation binary.ExclusiveOr rest = refl
-no_step_punctuation binary.And rest = refl
-no_step_punctuation binary.Equal rest = refl
-no_step_punctuation binary.NotEqual rest = refl
-no_step_punctuation binary.Less rest = refl
-no_step_punctuation binary.LessOrEqual rest = refl
-no_step_punctuation binary.Greater rest = refl
-no_step_punctuation binary.GreaterOrEqual rest = refl
-no_step_punctuation binary.ShiftLeft rest = refl
-no_step_punctuation binary.ShiftRight rest = refl
-no_step_punctuation binary.Add rest = refl
-no_step_punctuation binary.Subtract rest = refl
-no_step_punctuation binary.Multiply rest = refl
-no_step_punctuation binary.Divide rest = refl
-no_step_punctuation binary.Remainder rest = refl
-
-no_index_punctuation : (o : BinaryOperator) (rest : List TokenKind) → is_punctuation
-    punctuation.OpenBracket (token.Punctuation (binary_punctuation o) ∷ rest) ≡ false
-unfolding is_punctuation
-no_index_punctuation binary.LogicalOr rest = refl
-no_index_punctuation binary.LogicalAnd rest = refl
-no_index_punctuation binary.Or rest = refl
-no_index_punctuation binary.ExclusiveOr rest = refl
-no_index_punctuation binary.And rest = refl
-no_index_punctuation binary.Equal rest = refl
-no_index_punctuation binary.NotEqual rest = refl
-no_index_punctuation binary.Less rest = refl
-no_index_punctuation binary.LessOrEqual rest = refl
-no_index_punctuation binary.Greater rest = refl
-no_index_punctuation binary.GreaterOrEqual rest = refl
-no_index_punctuation binary.ShiftLeft rest = refl
-no_index_punctuation binary.ShiftRight rest = refl
-no_index_punctuation binary.Add rest = refl
-no_index_punctuation binary.Subtract rest = refl
-no_index_punctuation binary.Multiply rest = refl
-no_index_punctuation binary.Divide rest = refl
-no_index_punctuation binary.Remainder rest = refl
-
-of_rank_other : (k : ℕ) (o : BinaryOperator) → k < precedence o → of_rank k (Some o) ≡ None
-of_rank_other k o lt = let ne : eqb (precedence o) k ≡ false = ne_eqb (precedence o) k
-    (λ e. absurd (omega arith)) in rw ne refl
-
-of_rank_same : (o : BinaryOperator) → of_rank (precedence o) (Some o) ≡ Some o
-of_rank_same o = let same : eqb (precedence o) (precedence o) ≡ true = eq-eqb (precedence o)
-    (precedence o) refl in rw same refl
-
-Stops-operator : (r : ℕ) (o : BinaryOperator) (rest : List TokenKind) → r < precedence o → Stops r
-    (token.Punctuation (binary_punctuation o) ∷ rest)
-Stops-operator r o rest lt = record {
-  no_step = no_step_punctuation o rest;
-  no_index = no_index_punctuation o rest;
-  no_operator = λ k h. operator_punctuation k o rest ∙ of_rank_other k o (omega arith);
-  no_choice = λ h. absurd (omega (arith, (precedence_some o).1));
-}
-
-pub height_some : (e : tree.Expr) → 1 ≤ expr_height e
-height_some (tree.Number value) = omega arith
-height_some (tree.Truth value) = omega arith
-height_some (tree.Read name) = omega arith
-height_some (tree.Element name at) = omega arith
-height_some tree.Pop = omega arith
-height_some (tree.Peek at) = omega arith
-height_some (tree.Group inner) = omega arith
-height_some (tree.Unary o operand) = omega arith
-height_some (tree.Step o name) = omega arith
-height_some (tree.StepElement o name at) = omega arith
-height_some (tree.Binary o left right) = omega arith
-height_some (tree.Conditional condition chosen other) = omega arith
-
--- a tree has no more height than tokens
-pub expr_length : (e : tree.Expr) (rest : List TokenKind) → expr_height e + length rest ≤ length
-    (expr_spelled e rest)
-expr_length (tree.Number value) rest = omega arith
-expr_length (tree.Truth value) rest = omega arith
-expr_length (tree.Read name) rest = omega arith
-expr_length (tree.Element name at) rest = omega
-    (arith, expr_length at (token.Punctuation punctuation.CloseBracket ∷ rest))
-expr_length tree.Pop rest = omega arith
-expr_length (tree.Peek at) rest = omega
-    (arith, expr_length at (token.Punctuation punctuation.CloseParen ∷ rest))
-expr_length (tree.Group inner) rest = omega
-    (arith, expr_length inner (token.Punctuation punctuation.CloseParen ∷ rest))
-expr_length (tree.Unary o operand) rest = omega (arith, expr_length operand rest)
-expr_length (tree.Step step.IncrementFirst name) rest = omega arith
-expr_length (tree.Step step.DecrementFirst name) rest = omega arith
-expr_length (tree.Step step.IncrementAfter name) rest = omega arith
-expr_length (tree.Step step.DecrementAfter name) rest = omega arith
-expr_length (tree.StepElement step.IncrementFirst name at) rest = omega
-    (arith, expr_length at (token.Punctuation punctuation.CloseBracket ∷ rest))
-expr_length (tree.StepElement step.DecrementFirst name at) rest = omega
-    (arith, expr_length at (token.Punctuation punctuation.CloseBracket ∷ rest))
-expr_length (tree.StepElement step.IncrementAfter name at) rest = omega (
-  arith,
-  expr_length at
-      (token.Punctuation punctuation.CloseBracket ∷ token.Punctuation punctuation.PlusPlus ∷
-      rest),
-)
-expr_length (tree.StepElement step.DecrementAfter name at) rest = omega (
-  arith,
-  expr_length at
-      (token.Punctuation punctuation.CloseBracket ∷ token.Punctuation punctuation.MinusMinus ∷
-      rest),
-)
-expr_length (tree.Binary o left right) rest = omega (
-  arith,
-  expr_length left (token.Punctuation (binary_punctuation o) ∷ expr_spelled right rest),
-  expr_length right rest,
-)
-expr_length (tree.Conditional condition chosen other) rest =
-    let past : List TokenKind = token.Punctuation punctuation.Colon ∷ expr_spelled other rest in
-    omega (
-      arith,
-      expr_length condition
-          (token.Punctuation punctuation.Question ∷ expr_spelled chosen past),
-      expr_length chosen
-          past,
-      expr_length other rest,
-    )
-
-abbrev Triple : Type 0
-Triple = tree.Expr × ℕ × List TokenKind
-
-abbrev pub found : tree.Expr → List TokenKind → Triple
-found e rest = (e, expr_height e, rest)
+use Rattle.strc_grammar.proofs.Stops.{Stops, Stops-le, Stops-bracket, Stops-square, Stops-colon}
+use Rattle.strc_grammar.proofs.Stops.{Stops-question, Stops-operator, precedence_some}
+use Rattle.strc_grammar.proofs.Stops.{operator_punctuation, of_rank_same, height_some, expr_length}
+use Rattle.strc_grammar.proofs.ListedCompleteness.{found, IsReadCompleteness}
+use Rattle.strc_grammar.proofs.ListedCompleteness.{closed_arguments_completeness}
+use Rattle.strc_grammar.proofs.Given.{list_of, given_listed, given_highest, arguments_list}
+use Rattle.std.specs.List.{AllByRecursion}
 
 chain_stops : (depth : ℕ) (below : Below) (r turns : ℕ) (e : tree.Expr) (h : ℕ)
     (rest : List TokenKind) → operator r rest ≡ None → chain depth below r turns e h rest ≡ Ok
@@ -370,14 +118,6 @@ operand_facts e is_zero complete =
       spine = λ d k rest le lt stops. leaf_spine e climbed d k rest
           (omega arith) (omega arith) stops;
     }
-
--- read at a depth, by the climb to a rank and as a whole
-record IsReadCompleteness (e : tree.Expr) : Type 0 where
-  climbs : (depth r : ℕ) (rest : List TokenKind) → rank e ≤ r → r < lowest_precedence → Stops r
-      rest → Complete depth (expr_height e) (found e rest)
-      (expression depth r (expr_spelled e rest))
-  whole : (depth : ℕ) (rest : List TokenKind) → Stops lowest_precedence rest → Complete depth
-      (expr_height e) (found e rest) (expression depth lowest_precedence (expr_spelled e rest))
 
 no_depth : {X : Type 0} (e : tree.Expr) (x : X) → Complete 0 (expr_height e) x (Err Nesting)
 no_depth e x = record { fits = λ h. absurd (omega (arith, height_some e)); over = λ h. refl }
@@ -602,31 +342,42 @@ module _ (d : ℕ) (rest : List TokenKind) where
     expect_punctuation punctuation.CloseParen rest,
   ) refl
 
+-- what follows a variable or an element is no call's bracket
+no_call_index : (at : Option tree.Expr) (rest : List TokenKind) → is_punctuation
+    punctuation.OpenParen rest ≡ false → is_punctuation punctuation.OpenParen
+    (index_spelled at rest) ≡ false
+unfolding is_punctuation
+no_call_index None rest none = none
+no_call_index (Some at) rest none = refl
+
 module _ (d : ℕ) (named : List ℕ) (at : Option tree.Expr) (complete : IsIndexCompleteness at)
     (rest : List TokenKind) where
   name_completeness : Stops 0 rest → Complete (suc d) (place_height at)
       (read_of named at, place_height at, rest)
       (after_name (suc d) (expression d) named (index_spelled at rest))
-  unfolding after_name after_place
+  unfolding after_name after_variable after_place
   name_completeness stops =
-      Complete-then (suc d) (place_height at) (place_height at) (at, place_height at, rest)
+      rw (no_call_index at rest stops.no_call)
+      (Complete-then (suc d) (place_height at) (place_height at) (at, place_height at, rest)
       (read_of named at, place_height at, rest) _ _
       (index_completeness d rest at complete stops.no_index) (omega arith)
-      (λ low. rw stops.no_step (record { fits = λ h. refl; over = λ h. absurd (omega arith) }))
+      (λ low. rw stops.no_step (record { fits = λ h. refl; over = λ h. absurd (omega arith) })))
 
   step_after_completeness : (o : StepOperator) (past : List TokenKind) → is_punctuation
-      punctuation.OpenBracket past ≡ false → step_after past ≡ Some o → tail past ≡ rest
+      punctuation.OpenBracket past ≡ false → is_punctuation punctuation.OpenParen past ≡ false
+      → step_after past ≡ Some o → tail past ≡ rest
       → Complete (suc d) (place_height at + 1)
       (step_of_place o named at, place_height at + 1, rest)
       (after_name (suc d) (expression d) named (index_spelled at past))
-  unfolding after_name after_place
-  step_after_completeness o past no_index starts is_rest =
-      Complete-then (suc d) (place_height at) (place_height at + 1) (at, place_height at, past)
+  unfolding after_name after_variable after_place
+  step_after_completeness o past no_index no_call starts is_rest =
+      rw (no_call_index at past no_call)
+      (Complete-then (suc d) (place_height at) (place_height at + 1) (at, place_height at, past)
       (step_of_place o named at, place_height at + 1, rest) _ _
       (index_completeness d past at complete no_index) (omega arith)
       (λ low. rw (starts, is_rest)
       (Complete-raised (suc d) (place_height at)
-      (step_of_place o named at, place_height at + 1, rest) _ refl))
+      (step_of_place o named at, place_height at + 1, rest) _ refl)))
 
   step_first_completeness : (o : StepOperator) → Stops 0 rest
       → Complete (suc d) (place_height at + 1)
@@ -648,9 +399,9 @@ module _ (d : ℕ) (named : List ℕ) (at : Option tree.Expr) (complete : IsInde
   step_completeness step.IncrementFirst stops = step_first_completeness step.IncrementFirst stops
   step_completeness step.DecrementFirst stops = step_first_completeness step.DecrementFirst stops
   step_completeness step.IncrementAfter stops = step_after_completeness step.IncrementAfter
-      (token.Punctuation punctuation.PlusPlus ∷ rest) refl refl refl
+      (token.Punctuation punctuation.PlusPlus ∷ rest) refl refl refl refl
   step_completeness step.DecrementAfter stops = step_after_completeness step.DecrementAfter
-      (token.Punctuation punctuation.MinusMinus ∷ rest) refl refl refl
+      (token.Punctuation punctuation.MinusMinus ∷ rest) refl refl refl refl
 
 -- the height of a step is two more than the index's
 element_step : (d : ℕ) (named : List ℕ) (at : tree.Expr) → IsReadCompleteness at →
@@ -681,6 +432,32 @@ module _ (d : ℕ) (rest : List TokenKind) where
   unfolding operand keyword_operand
   truth_completeness true = refl
   truth_completeness false = refl
+
+-- a call, by its list of arguments
+module _ (d : ℕ) (rest : List TokenKind) (named : List ℕ) where
+  abbrev CallCompleteness : tree.Arguments → Type 0
+  CallCompleteness given = Complete (suc d) (expr_height (tree.Call named given))
+      (found (tree.Call named given) rest)
+      (operand (suc d) (expression d) (expr_spelled (tree.Call named given) rest))
+
+  listed_call : (es : List tree.Expr) → AllByRecursion IsReadCompleteness es
+      → CallCompleteness (arguments_of es)
+  unfolding operand after_name call is_punctuation
+  listed_call es complete =
+      let high : ℕ = highest expr_height es in
+      let whole : tree.Expr = tree.Call named (arguments_of es) in
+      let read = Complete-inside d high (high + 1) (es, high, rest) (whole, high + 1, rest)
+      (closed_arguments (expression d)
+      (listed_spelled es (token.Punctuation punctuation.CloseParen ∷ rest))) _
+      (closed_arguments_completeness d es complete rest) (omega arith)
+      (λ low. Complete-raised (suc d) high (whole, high + 1, rest)
+      (λ height. Ok (whole, height, rest)) refl) in
+      rw (given_listed es (token.Punctuation punctuation.CloseParen ∷ rest), given_highest es) read
+
+  call_completeness : (given : tree.Arguments)
+      → AllByRecursion IsReadCompleteness (list_of given) → CallCompleteness given
+  call_completeness given complete =
+      subst CallCompleteness (arguments_list given) (listed_call (list_of given) complete)
 
 -- ---- the choice between two
 
@@ -741,43 +518,59 @@ known_operand : (e : tree.Expr) → rank e ≡ 0
     (found e rest) (operand (suc d) (expression d) (expr_spelled e rest))) → Known e
 known_operand e is_zero complete = known_facts e (omega arith) (operand_facts e is_zero complete)
 
-known : (e : tree.Expr) → IsExpr e → Known e
-unfolding operand keyword_operand punctuation_operand
-known (tree.Number value) shape = known_operand (tree.Number value) refl
-    (λ d rest stops. Complete-leaf d _ _ refl)
-known (tree.Truth value) shape = known_operand (tree.Truth value) refl
-    (λ d rest stops. Complete-leaf d _ _ (truth_completeness d rest value))
-known (tree.Read named) shape = known_operand (tree.Read named) refl
-    (λ d rest stops. name_completeness d named None tt rest stops)
-known (tree.Element named at) shape =
-    let inside = (known at shape).reads in known_operand (tree.Element named at) refl
-    (λ d rest stops. name_completeness d named (Some at) inside rest stops)
-known tree.Pop shape = known_operand tree.Pop refl
-    (λ d rest stops. Complete-leaf d _ _ (pop_completeness d rest))
-known (tree.Peek at) shape = let inside = (known at shape).reads in known_operand (tree.Peek at)
-    refl (λ d rest stops. peek_completeness d rest at inside)
-known (tree.Group inner) shape = let inside = (known inner shape).reads in known_operand
-    (tree.Group inner) refl (λ d rest stops. group_completeness d rest inner inside)
-known (tree.Unary o inner) shape =
-    let inside = (known inner shape.1).reads in known_operand (tree.Unary o inner) refl
-    (λ d rest stops. unary_completeness d rest o inner inside shape.0 stops)
-known (tree.Step o named) shape = known_operand (tree.Step o named) refl
-    (λ d rest stops. step_completeness d named None tt rest o stops)
-known (tree.StepElement o named at) shape =
-    let inside = (known at shape).reads in known_operand (tree.StepElement o named at) refl
-    (λ d rest stops. element_step d named at inside rest o stops)
-known (tree.Binary o left right) shape =
-    known_facts (tree.Binary o left right) (omega (arith, (precedence_some o).1))
-    (binary_facts o left right shape.0 shape.1 (known left shape.2).facts
-    (known right shape.3).reads)
-known (tree.Conditional condition chosen other) shape = record {
-  facts = choose_facts condition chosen other;
-  reads = record {
-    climbs = λ depth r rest le lt stops. absurd (omega arith);
-    whole = choose_whole condition chosen other shape.0 (known condition shape.1).facts
-        (known chosen shape.2).reads (known other shape.3).reads;
-  };
-}
+mutual
+  unfolding operand keyword_operand punctuation_operand
+
+  known : (e : tree.Expr) → IsExpr e → Known e
+  known (tree.Number value) shape = known_operand (tree.Number value) refl
+      (λ d rest stops. Complete-leaf d _ _ refl)
+  known (tree.Truth value) shape = known_operand (tree.Truth value) refl
+      (λ d rest stops. Complete-leaf d _ _ (truth_completeness d rest value))
+  known (tree.Read named) shape = known_operand (tree.Read named) refl
+      (λ d rest stops. name_completeness d named None tt rest stops)
+  known (tree.Element named at) shape =
+      let inside = (known at shape).reads in known_operand (tree.Element named at) refl
+      (λ d rest stops. name_completeness d named (Some at) inside rest stops)
+  known tree.Pop shape = known_operand tree.Pop refl
+      (λ d rest stops. Complete-leaf d _ _ (pop_completeness d rest))
+  known (tree.Peek at) shape = let inside = (known at shape).reads in known_operand (tree.Peek at)
+      refl (λ d rest stops. peek_completeness d rest at inside)
+  known (tree.Call named given) shape =
+      let inside = known_given given shape in known_operand (tree.Call named given) refl
+      (λ d rest stops. call_completeness d rest named given inside)
+  known (tree.Group inner) shape = let inside = (known inner shape).reads in known_operand
+      (tree.Group inner) refl (λ d rest stops. group_completeness d rest inner inside)
+  known (tree.Unary o inner) shape =
+      let inside = (known inner shape.1).reads in known_operand (tree.Unary o inner) refl
+      (λ d rest stops. unary_completeness d rest o inner inside shape.0 stops)
+  known (tree.Step o named) shape = known_operand (tree.Step o named) refl
+      (λ d rest stops. step_completeness d named None tt rest o stops)
+  known (tree.StepElement o named at) shape =
+      let inside = (known at shape).reads in known_operand (tree.StepElement o named at) refl
+      (λ d rest stops. element_step d named at inside rest o stops)
+  known (tree.Binary o left right) shape =
+      known_facts (tree.Binary o left right) (omega (arith, (precedence_some o).1))
+      (binary_facts o left right shape.0 shape.1 (known left shape.2).facts
+      (known right shape.3).reads)
+  known (tree.Conditional condition chosen other) shape = record {
+    facts = choose_facts condition chosen other;
+    reads = record {
+      climbs = λ depth r rest le lt stops. absurd (omega arith);
+      whole = choose_whole condition chosen other shape.0 (known condition shape.1).facts
+          (known chosen shape.2).reads (known other shape.3).reads;
+    };
+  }
+
+  known_given : (given : tree.Arguments) → AreGiven given
+      → AllByRecursion IsReadCompleteness (list_of given)
+  known_given tree.NoArgument shape = tt
+  known_given (tree.Argument first others) shape =
+      ((known first shape.0).reads, known_given others shape.1)
+
+pub expressions_read : (es : List tree.Expr) → AllByRecursion IsExpr es
+    → AllByRecursion IsReadCompleteness es
+expressions_read [] shape = tt
+expressions_read (e ∷ others) shape = ((known e shape.0).reads, expressions_read others shape.1)
 
 -- an expression is read again where what follows stops it
 pub expression_completeness : (e : tree.Expr) → IsExpr e → (depth : ℕ) (rest : List TokenKind) →

@@ -20,44 +20,26 @@ use Rattle.strc_syntax.specs.Tree as tree
 use Rattle.strc_grammar.specs.Grammar.{unary_punctuation, binary_punctuation, step_spelled}
 use Rattle.strc_grammar.specs.Grammar.{expr_spelled, precedence, lowest_precedence, rank, IsExpr}
 use Rattle.strc_grammar.specs.Grammar.{IsOptional, expr_height}
-use Rattle.strc_syntax.specs.Tree.{read_of, step_of_place}
+use Rattle.strc_syntax.specs.Tree.{read_of, step_of_place, arguments_of}
 use Rattle.strc_grammar.specs.Reading.{◌>>=◌, Below, Tall, tail, punctuation_at, is_punctuation}
 use Rattle.strc_grammar.specs.Reading.{binary_of, of_rank, operator, step_after, closed, index}
 use Rattle.strc_grammar.specs.Reading.{after_place_by, after_place, after_name, step_first}
 use Rattle.strc_grammar.specs.Reading.{pop_brackets, peek_brackets, group, sign}
 use Rattle.strc_grammar.specs.Reading.{punctuation_operand, keyword_operand, operand, chain_by}
 use Rattle.strc_grammar.specs.Reading.{chain, climb, choice, lowest_binary_precedence, conditional}
-use Rattle.strc_grammar.specs.Reading.{ranked, expression, raised}
-use Rattle.strc_grammar.proofs.ExpressionCompleteness.{expr_length, height_some, index_spelled}
-use Rattle.strc_grammar.proofs.ExpressionCompleteness.{place_height}
+use Rattle.strc_grammar.specs.Reading.{ranked, expression, raised, after_variable, call}
+use Rattle.strc_grammar.specs.Reading.{closed_arguments}
+use Rattle.strc_grammar.proofs.ExpressionCompleteness.{index_spelled, place_height}
+use Rattle.strc_grammar.proofs.Stops.{expr_length}
 use Rattle.strc_grammar.proofs.Soundness.{Sound, Sound-then, Sound-on, Sound-expect, Sound-name}
 use Rattle.strc_grammar.proofs.Soundness.{Sound-raised, punctuation_is}
+use Rattle.strc_grammar.proofs.ExpressionRead.{ExprRead, ExprRead-long, ExprRead-some, ClosedRead}
+use Rattle.strc_grammar.proofs.ExpressionRead.{ClosedRead-long, IsReader, closed_soundness}
+use Rattle.strc_grammar.proofs.ListedSoundness.{ClosedListRead, closed_arguments_soundness}
+use Rattle.strc_grammar.proofs.Given.{given_listed, given_highest, given_shape}
 
 abbrev count : List TokenKind → ℕ
 count ts = length ts
-
--- an expression, its height and what follows it, read from these tokens
-pub record ExprRead (depth r : ℕ) (tokens : List TokenKind)
-    (x : tree.Expr × ℕ × List TokenKind) : Type 0 where
-  pub spelled : tokens ≡ expr_spelled x.0 x.2
-  pub shape : IsExpr x.0
-  pub ranked : rank x.0 ≤ r
-  pub high : x.1 ≡ expr_height x.0
-  pub low : x.1 ≤ depth
-
-pub ExprRead-long : {depth r : ℕ} {tokens : List TokenKind} {x : tree.Expr × ℕ × List TokenKind}
-    → ExprRead depth r tokens x → x.1 + length x.2 ≤ length tokens
-ExprRead-long {depth} {r} {tokens} {x} read =
-    omega (
-      arith,
-      expr_length x.0 x.2,
-      read.high,
-      ap (λ (ts : List TokenKind). length ts) read.spelled,
-    )
-
-pub ExprRead-some : {depth r : ℕ} {tokens : List TokenKind} {x : tree.Expr × ℕ × List TokenKind}
-    → ExprRead depth r tokens x → 1 ≤ x.1
-ExprRead-some {depth} {r} {tokens} {x} read = omega (arith, height_some x.0, read.high)
 
 -- ---- what comes first
 
@@ -185,41 +167,6 @@ index_length (Some at) rest = omega (
   expr_length at (token.Punctuation punctuation.CloseBracket ∷ rest),
 )
 
--- an expression and the punctuation that closes it
-pub record ClosedRead (depth : ℕ) (m : Punctuation) (tokens : List TokenKind)
-    (x : tree.Expr × ℕ × List TokenKind) : Type 0 where
-  pub spelled : tokens ≡ expr_spelled x.0 (token.Punctuation m ∷ x.2)
-  pub shape : IsExpr x.0
-  pub high : x.1 ≡ expr_height x.0
-  pub low : x.1 ≤ depth
-
-pub ClosedRead-long : {depth : ℕ} {m : Punctuation} {tokens : List TokenKind}
-    {x : tree.Expr × ℕ × List TokenKind} → ClosedRead depth m tokens x
-    → x.1 + length x.2 + 1 ≤ length tokens
-ClosedRead-long {depth} {m} {tokens} {x} read =
-    omega (arith, expr_length x.0 (token.Punctuation m ∷ x.2), read.high, ap count read.spelled)
-
-abbrev IsReader : ℕ → Below → Type 0
-IsReader d below = (r : ℕ) (tokens : List TokenKind)
-    → Sound (ExprRead d r tokens) d tokens (below r tokens)
-
-pub closed_soundness : (d : ℕ) (below : Below) → IsReader d below
-    → (m : Punctuation) (tokens : List TokenKind)
-    → Sound (ClosedRead d m tokens) d tokens (closed below m tokens)
-unfolding closed
-closed_soundness d below sound m tokens =
-    Sound-then (ExprRead d lowest_precedence tokens) (ClosedRead d m tokens) d tokens
-    (below lowest_precedence tokens) _ (sound lowest_precedence tokens) (λ x read.
-    Sound-expect (ClosedRead d m tokens) d tokens m x.2 _ (omega (arith, ExprRead-long read))
-    (λ rest e.
-    record {
-      spelled = read.spelled ∙ ap (λ (ts : List TokenKind). expr_spelled x.0 ts) e;
-      shape =
-          read.shape;
-      high = read.high;
-      low = read.low;
-    }))
-
 -- an index, or nothing, after a name
 record IndexRead (depth : ℕ) (tokens : List TokenKind)
     (x : Option tree.Expr × ℕ × List TokenKind) : Type 0 where
@@ -326,11 +273,11 @@ module _ (d : ℕ) where
               rw is none
         ]
 
-    after_name_soundness : (x : List ℕ) (past : List TokenKind)
+    variable_soundness : (x : List ℕ) (past : List TokenKind)
         → Sound (ExprRead (suc d) 0 (token.Name x ∷ past)) (suc d) (token.Name x ∷ past)
-        (after_name (suc d) below x past)
-    unfolding after_name
-    after_name_soundness x past =
+        (after_variable (suc d) below x past)
+    unfolding after_variable
+    variable_soundness x past =
         let all : List TokenKind = token.Name x ∷ past in
         Sound-then (IndexRead (suc d) past) (ExprRead (suc d) 0 all) (suc d) all
         (index (suc d) below past) _
@@ -338,6 +285,43 @@ module _ (d : ℕ) where
         (index (suc d) below past) (omega arith) (omega arith) (index_soundness past) (λ r h. h))
         (λ r at. after_place_soundness x all r
         (ap (λ (ts : List TokenKind). token.Name x ∷ ts) at.spelled) at.shape at.high at.low)
+
+    call_soundness : (x : List ℕ) (all past : List TokenKind)
+        → all ≡ token.Name x ∷ token.Punctuation punctuation.OpenParen ∷ past
+        → Sound (ExprRead (suc d) 0 all) (suc d) all (call (suc d) below x past)
+    unfolding call
+    call_soundness x all past is =
+        let P : List tree.Expr × ℕ × List TokenKind → Type 0 = ClosedListRead d past in
+        let Q : tree.Expr × ℕ × List TokenKind → Type 0 = ExprRead (suc d) 0 all in
+        let two : length all ≡ suc (suc (length past)) = ap count is in
+        Sound-then P Q (suc d) all (closed_arguments below past) _
+        (Sound-on P P d (suc d) past all (closed_arguments below past) (omega arith) (omega arith)
+        (closed_arguments_soundness d below sound past) (λ y h. h)) (λ y given.
+        let shut : List TokenKind = token.Punctuation punctuation.CloseParen ∷ y.2 in
+        Sound-raised Q (suc d) all (suc d) y.1
+        (λ height. Ok (tree.Call x (arguments_of y.0), height, y.2))
+        (λ lt. record {
+          spelled = is ∙ ap (λ (ts : List TokenKind). token.Name x
+              ∷ token.Punctuation punctuation.OpenParen ∷ ts)
+              (given.spelled ∙ sym (given_listed y.0 shut));
+          shape = given_shape y.0 given.shape;
+          ranked = omega arith;
+          high = ap (λ (n : ℕ). n + 1) (given.high ∙ sym (given_highest y.0));
+          low = omega arith;
+        }) (λ le. absurd (omega (arith, given.low))))
+
+    after_name_soundness : (x : List ℕ) (past : List TokenKind)
+        → Sound (ExprRead (suc d) 0 (token.Name x ∷ past)) (suc d) (token.Name x ∷ past)
+        (after_name (suc d) below x past)
+    unfolding after_name
+    after_name_soundness x past =
+        elim (cases_Bool (is_punctuation punctuation.OpenParen past)) [
+          | inl is ↦
+              let starts = punctuation_is punctuation.OpenParen past is in
+              rw is (call_soundness x (token.Name x ∷ past) (tail past)
+              (ap (λ (ts : List TokenKind). token.Name x ∷ ts) starts))
+          | inr is ↦ rw is (variable_soundness x past)
+        ]
 
     step_first_soundness : (m : Punctuation) (o : StepOperator) (past : List TokenKind)
         → ((target : List TokenKind → List TokenKind) (rest : List TokenKind)

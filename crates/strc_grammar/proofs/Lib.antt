@@ -1,8 +1,12 @@
 pub mod Rounds
 pub mod Repeated
 pub mod Completeness
-pub mod ExpressionCompleteness
+pub mod Stops
+pub mod Opens
+pub mod Given
 pub mod Lists
+pub mod ListedCompleteness
+pub mod ExpressionCompleteness
 pub mod VariableCompleteness
 pub mod SimpleCompleteness
 pub mod ArgumentCompleteness
@@ -12,6 +16,8 @@ pub mod CompositionCompleteness
 pub mod TreeCompleteness
 pub mod ProgramCompleteness
 pub mod Soundness
+pub mod ExpressionRead
+pub mod ListedSoundness
 pub mod ExpressionSoundness
 pub mod SimpleSoundness
 pub mod ArgumentSoundness

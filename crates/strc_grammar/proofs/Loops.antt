@@ -1,8 +1,7 @@
 -- A loop that goes on while there is a separator, beside the definition's loop of at most so many
 -- turns.
-use Rattle.std.proofs.Common.{◌≡◌, ℕ, ◌-◌, ◌<◌, ◌≤◌, true, List, [], ◌∷◌, length, max, zero}
-use Rattle.std.proofs.Common.{suc, ◌∙◌, Option, Some, None, Result, Ok, Err, refl, ap, inl, inr}
-use Rattle.std.proofs.Common.{arith}
+use Rattle.std.proofs.Common.{◌≡◌, ℕ, ◌-◌, ◌<◌, ◌≤◌, true, List, [], ◌∷◌, length, max, zero, suc}
+use Rattle.std.proofs.Common.{◌∙◌, Option, Some, None, Result, Ok, Err, refl, ap, inl, inr, arith}
 use Rattle.std.proofs.lemmas.Bool.{cases_Bool}
 use Rattle.strc_lex.specs.declared.token.TokenKind.{TokenKind}
 use Rattle.strc_lex.specs.declared.token.TokenKind.TheVariants as token
@@ -20,7 +19,8 @@ use Rattle.strc_grammar.specs.Reading.{repeated, operator, chain, expression, in
 use Rattle.strc_grammar.specs.Reading.{parameter}
 use Rattle.strc_grammar.proofs.Repeated.{repeated_on, repeated_ends, repeated_fails}
 use Rattle.strc_grammar.proofs.Soundness.{Sound-ok, punctuation_is}
-use Rattle.strc_grammar.proofs.ExpressionSoundness.{ExprRead, ExprRead-long, expression_soundness}
+use Rattle.strc_grammar.proofs.ExpressionSoundness.{expression_soundness}
+use Rattle.strc_grammar.proofs.ExpressionRead.{ExprRead, ExprRead-long}
 use Rattle.strc_syntax.specs.Tree as tree
 
 -- The loop so far: to go on from here gives the whole, and the turns are enough for the tokens that

@@ -1,6 +1,7 @@
 -- The members of a filter are read again, by what holds of the statements in them.
 use Rattle.std.proofs.Common.{◌≡◌, ℕ, zero, suc, ◌+◌, ◌<◌, ◌≤◌, max, false, List, [], ◌∷◌, ◌++◌}
-use Rattle.std.proofs.Common.{length, Some, None, Ok, Err, refl, ap, ◌∙◌, arith, inl, inr}
+use Rattle.std.proofs.Common.{length, Some, None, Ok, Err, refl, ap, ◌∙◌, arith, inl, inr, true}
+use Rattle.std.proofs.Common.{Option}
 use Rattle.std.proofs.lemmas.Bool.{cases_lt}
 use Rattle.std.proofs.lemmas.List.Folds.{list_any-append}
 use Rattle.std.specs.List.{AllByRecursion}
@@ -19,21 +20,28 @@ use Rattle.strc_grammar.specs.Grammar.{rate_keyword, rate_spelled, each_spelled,
 use Rattle.strc_grammar.specs.Grammar.{members_spelled, lowest_precedence, IsExpr, IsVariableType}
 use Rattle.strc_grammar.specs.Grammar.{AreVariables, AreRates, IsMember, declared_height}
 use Rattle.strc_grammar.specs.Grammar.{row_height, rate_height, member_height, members_height}
-use Rattle.strc_grammar.specs.Grammar.{highest}
-use Rattle.strc_grammar.specs.Reading.{◌>>=◌, is_punctuation, repeated, brace}
+use Rattle.strc_grammar.specs.Grammar.{highest, parameters_spelled, listed_parameters_spelled}
+use Rattle.strc_grammar.specs.Grammar.{initial_spelled, next_spelled, variables_spelled}
+use Rattle.strc_grammar.specs.Reading.{◌>>=◌, is_punctuation, repeated, brace, name}
 use Rattle.strc_syntax.specs.Tree.{chain}
 use Rattle.strc_grammar.specs.Streams.{rate_kind, has_rate, rate_of, rate_turn, no_rate, rates}
 use Rattle.strc_grammar.specs.Streams.{statement, braced, init, phase, fields, member, members}
+use Rattle.strc_grammar.specs.Streams.{is_heading, helper_function, typed_member}
 use Rattle.strc_grammar.proofs.Completeness.{Complete, Complete-then, expect_punctuation}
+use Rattle.strc_grammar.proofs.Completeness.{Complete-done}
 use Rattle.strc_grammar.proofs.Repeated.{no_rate_stays, rate_turn_at}
-use Rattle.strc_grammar.proofs.ExpressionCompleteness.{Stops, Stops-keyword, Stops-brace}
-use Rattle.strc_grammar.proofs.ExpressionCompleteness.{expr_length, expression_completeness, found}
+use Rattle.strc_grammar.proofs.Stops.{Stops, Stops-keyword, Stops-brace, expr_length}
+use Rattle.strc_grammar.proofs.ExpressionCompleteness.{expression_completeness}
+use Rattle.strc_grammar.proofs.ListedCompleteness.{found}
 use Rattle.strc_grammar.proofs.Lists.{gathered, gathered_none, gathered_more, TallCompleteness}
 use Rattle.strc_grammar.proofs.Lists.{each_taller_completeness}
-use Rattle.strc_grammar.proofs.VariableCompleteness.{Complete-done, fields_completeness}
+use Rattle.strc_grammar.proofs.VariableCompleteness.{fields_completeness}
 use Rattle.strc_grammar.proofs.StatementCompleteness.{listed, row_listed, rates_length}
 use Rattle.strc_grammar.proofs.StatementCompleteness.{member_length, StmtCompleteness}
 use Rattle.strc_grammar.proofs.StatementCompleteness.{brace_closing, row_completeness}
+use Rattle.strc_syntax.specs.declared.tree.HelperType.{HelperType}
+use Rattle.strc_syntax.specs.declared.tree.HelperType.TheVariants as helper
+use Rattle.strc_grammar.proofs.ArgumentCompleteness.{closed_parameters_completeness}
 
 -- ---- rates
 
@@ -254,12 +262,58 @@ module _ (d : ℕ) where
       (λ low. rw (expect_punctuation punctuation.Semicolon rest)
       (Complete-done d high (tree.Fields kind vs, high, rest) _ low refl))
 
+  helper_completeness : (kind : HelperType) (x : List ℕ) (given : List (List ℕ))
+      (block : tree.Stmts) → BlockCompleteness block → (rest : List TokenKind)
+      → Complete d (row_height block) (tree.Helper kind x given block, row_height block, rest)
+      (helper_function (statement d) kind (token.Name x ∷ parameters_spelled (Some given)
+      (block_spelled block rest)))
+  unfolding helper_function name
+  helper_completeness kind x given block complete rest =
+      let high : ℕ = row_height block in
+      let past : List TokenKind = block_spelled block rest in
+      let whole : tree.Member = tree.Helper kind x given block in
+      rw (
+        expect_punctuation punctuation.OpenParen (listed_parameters_spelled given
+            (token.Punctuation punctuation.CloseParen ∷ past)),
+        closed_parameters_completeness given past,
+      ) (Complete-then d high high (block, high, rest) (whole, high, rest) _ _
+      (braced_completeness block complete rest) (omega arith)
+      (λ low. Complete-done d high (whole, high, rest) _ low refl))
+
+-- a variable of fields is no helper's name: no bracket follows it
+no_bracket_after : (begun : Option tree.Expr) (others : List tree.Variable) (rest : List TokenKind)
+    → is_punctuation punctuation.OpenParen (initial_spelled begun
+    (each_spelled next_spelled others (token.Punctuation punctuation.Semicolon ∷ rest))) ≡ false
+unfolding is_punctuation
+no_bracket_after None [] rest = refl
+no_bracket_after None (v ∷ others) rest = refl
+no_bracket_after (Some e) others rest = refl
+
+no_heading : (vs : List tree.Variable) → AreVariables vs → (rest : List TokenKind)
+    → is_heading (variables_spelled vs (token.Punctuation punctuation.Semicolon ∷ rest)) ≡ false
+unfolding is_heading
+no_heading [] shape rest = absurd shape
+no_heading (v ∷ others) shape rest = no_bracket_after v.initial others rest
+
+no_heading_length : (size : tree.Expr) (vs : List tree.Variable) (rest : List TokenKind)
+    → is_heading (token.Punctuation punctuation.OpenBracket ∷ expr_spelled size
+    (token.Punctuation punctuation.CloseBracket
+    ∷ variables_spelled vs (token.Punctuation punctuation.Semicolon ∷ rest))) ≡ false
+unfolding is_heading
+no_heading_length size vs rest = refl
+
+heading_begins : (x : List ℕ) (given : List (List ℕ)) (block : tree.Stmts) (rest : List TokenKind)
+    → is_heading (token.Name x ∷ parameters_spelled (Some given) (block_spelled block rest)) ≡ true
+unfolding is_heading is_punctuation
+heading_begins x given block rest = refl
+
 -- the statements of a member are read again
 abbrev pub InsideCompleteness : tree.Member → Type 0
 InsideCompleteness (tree.Fields kind vs) = Unit {0}
 InsideCompleteness (tree.Init block) = BlockCompleteness block
 InsideCompleteness (tree.Prework declared block) = BlockCompleteness block
 InsideCompleteness (tree.Work declared block) = BlockCompleteness block
+InsideCompleteness (tree.Helper kind x given block) = BlockCompleteness block
 
 -- a member is read again at each limit
 pub record MemberCompleteness (m : tree.Member) : Type 0 where
@@ -271,18 +325,27 @@ pub record MemberCompleteness (m : tree.Member) : Type 0 where
 member_reads : (m : tree.Member) → IsMember m → InsideCompleteness m
     → (d : ℕ) (rest : List TokenKind) → Complete d (member_height m) (m, member_height m, rest)
     (member d (statement d) (member_spelled m rest))
-unfolding member
+unfolding member typed_member
 member_reads (tree.Fields tree.Boolean vs) shape inside d rest =
-    field_completeness d tree.Boolean vs shape.0 shape.1 rest
+    rw (no_heading vs shape.1 rest) (field_completeness d tree.Boolean vs shape.0 shape.1 rest)
 member_reads (tree.Fields tree.Int vs) shape inside d rest =
-    field_completeness d tree.Int vs shape.0 shape.1 rest
+    rw (no_heading vs shape.1 rest) (field_completeness d tree.Int vs shape.0 shape.1 rest)
 member_reads (tree.Fields (tree.Array size) vs) shape inside d rest =
-    field_completeness d (tree.Array size) vs shape.0 shape.1 rest
+    rw (no_heading_length size vs rest)
+    (field_completeness d (tree.Array size) vs shape.0 shape.1 rest)
 member_reads (tree.Init block) shape inside d rest = init_completeness d block inside rest
 member_reads (tree.Prework declared block) shape inside d rest =
     phase_member_completeness d tree.Prework declared block shape.0 inside rest
 member_reads (tree.Work declared block) shape inside d rest =
     phase_member_completeness d tree.Work declared block shape.0 inside rest
+member_reads (tree.Helper helper.Int x given block) shape inside d rest =
+    rw (heading_begins x given block rest)
+    (helper_completeness d helper.Int x given block inside rest)
+member_reads (tree.Helper helper.Boolean x given block) shape inside d rest =
+    rw (heading_begins x given block rest)
+    (helper_completeness d helper.Boolean x given block inside rest)
+member_reads (tree.Helper helper.Void x given block) shape inside d rest =
+    helper_completeness d helper.Void x given block inside rest
 
 pub member_completeness : (m : tree.Member) → IsMember m → InsideCompleteness m
     → MemberCompleteness m
@@ -296,6 +359,9 @@ no_brace_member (tree.Fields (tree.Array size) vs) rest = refl
 no_brace_member (tree.Init block) rest = refl
 no_brace_member (tree.Prework declared block) rest = refl
 no_brace_member (tree.Work declared block) rest = refl
+no_brace_member (tree.Helper helper.Int x given block) rest = refl
+no_brace_member (tree.Helper helper.Boolean x given block) rest = refl
+no_brace_member (tree.Helper helper.Void x given block) rest = refl
 
 -- ---- members in a row
 

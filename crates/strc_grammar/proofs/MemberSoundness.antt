@@ -19,21 +19,28 @@ use Rattle.strc_syntax.specs.Tree as tree
 use Rattle.strc_grammar.specs.Grammar.{declared_spelled, block_spelled, rate_keyword, rate_spelled}
 use Rattle.strc_grammar.specs.Grammar.{each_spelled, member_spelled, lowest_precedence, IsExpr}
 use Rattle.strc_grammar.specs.Grammar.{AreStmts, AreRates, IsMember, row_height, rate_height}
-use Rattle.strc_grammar.specs.Grammar.{member_height, highest}
+use Rattle.strc_grammar.specs.Grammar.{member_height, highest, helper_keyword}
+use Rattle.strc_grammar.specs.Grammar.{listed_parameters_spelled}
 use Rattle.strc_grammar.specs.Reading.{◌>>=◌, Read, tail, repeated, one_taller, brace, expression}
-use Rattle.strc_grammar.specs.Reading.{declared}
+use Rattle.strc_grammar.specs.Reading.{declared, closed_parameters}
 use Rattle.strc_grammar.specs.Streams.{Inner, statements, rate_kind, has_rate, rate_of, rate_by}
 use Rattle.strc_grammar.specs.Streams.{rate_turn, no_rate_by, no_rate, rates, braced, init, phase}
-use Rattle.strc_grammar.specs.Streams.{fields, member, members}
-use Rattle.strc_grammar.proofs.ExpressionCompleteness.{expr_length}
+use Rattle.strc_grammar.specs.Streams.{fields, member, members, is_heading, helper_function}
+use Rattle.strc_grammar.specs.Streams.{typed_member}
+use Rattle.strc_grammar.proofs.Stops.{expr_length}
 use Rattle.strc_grammar.proofs.VariableCompleteness.{declared_length}
 use Rattle.strc_grammar.proofs.StatementCompleteness.{rates_length, member_length}
+use Rattle.strc_grammar.proofs.StatementCompleteness.{listed_parameters_length}
 use Rattle.strc_grammar.proofs.Soundness.{Sound, Sound-ok, Sound-then, Sound-on, Sound-expect}
 use Rattle.strc_grammar.proofs.Soundness.{Stopped, repeated_soundness, brace_is, each_spelled-push}
-use Rattle.strc_grammar.proofs.Soundness.{highest-push, All-push}
-use Rattle.strc_grammar.proofs.ExpressionSoundness.{ExprRead, expression_soundness}
+use Rattle.strc_grammar.proofs.Soundness.{highest-push, All-push, Sound-name}
+use Rattle.strc_grammar.proofs.ExpressionSoundness.{expression_soundness}
+use Rattle.strc_grammar.proofs.ExpressionRead.{ExprRead}
 use Rattle.strc_grammar.proofs.SimpleSoundness.{DeclaredRead, declared_soundness}
 use Rattle.strc_grammar.proofs.StatementSoundness.{StmtRead, BodyRead, statements_soundness}
+use Rattle.strc_syntax.specs.declared.tree.HelperType.{HelperType}
+use Rattle.strc_syntax.specs.declared.tree.HelperType.TheVariants as helper
+use Rattle.strc_grammar.proofs.ArgumentSoundness.{closed_parameters_soundness}
 
 abbrev count : List TokenKind → ℕ
 count ts = length ts
@@ -313,13 +320,58 @@ module _ (d : ℕ) (inner : Inner) (sound : (tokens : List TokenKind)
       (d - 1) tokens tokens (fields d tokens) (omega arith) (omega arith)
       (fields_soundness d tokens) (λ x h. h)
 
+  helper_soundness : (kind : HelperType) (past : List TokenKind)
+      → Sound (MemberRead d (helper_keyword kind ∷ past)) (d - 1) (helper_keyword kind ∷ past)
+      (helper_function inner kind past)
+  unfolding helper_function
+  helper_soundness kind past =
+      let all : List TokenKind = helper_keyword kind ∷ past in
+      let Q : tree.Member × ℕ × List TokenKind → Type 0 = MemberRead d all in
+      Sound-name Q (d - 1) all past _ (omega arith) (λ x named e.
+      let one : length past ≡ suc (length named) = ap count e in
+      Sound-expect Q (d - 1) all punctuation.OpenParen named _ (omega arith) (λ opened f.
+      let two : length named ≡ suc (length opened) = ap count f in
+      let P : List (List ℕ) × List TokenKind → Type 0 =
+      λ y. opened ≡ listed_parameters_spelled y.0
+      (token.Punctuation punctuation.CloseParen ∷ y.1) in
+      Sound-then P Q (d - 1) all (closed_parameters opened) _
+      (Sound-on P P (d - 1) (d - 1) opened all (closed_parameters opened) (omega arith)
+      (omega arith) (closed_parameters_soundness (d - 1) opened) (λ y h. h)) (λ y given.
+      let three : length y.1 ≤ length opened =
+      omega (
+        arith,
+        ap count given,
+        listed_parameters_length y.0 (token.Punctuation punctuation.CloseParen ∷ y.1),
+      ) in
+      Sound-then (BlockRead d y.1) Q (d - 1) all (braced inner y.1) _
+      (Sound-on (BlockRead d y.1) (BlockRead d y.1) (d - 1) (d - 1) y.1 all (braced inner y.1)
+      (omega arith) (omega arith) (braced_soundness y.1) (λ z h. h)) (λ z block. record {
+        spelled = ap (λ (ts : List TokenKind). helper_keyword kind ∷ ts)
+            (e ∙ ap (λ (ts : List TokenKind). token.Name x ∷ ts)
+            (f ∙ ap (λ (ts : List TokenKind). token.Punctuation punctuation.OpenParen ∷ ts)
+            (given ∙ ap (λ (ts : List TokenKind). listed_parameters_spelled y.0
+            (token.Punctuation punctuation.CloseParen ∷ ts)) block.spelled)));
+        shape = block.shape;
+        high = block.high;
+        low = block.low;
+      }))))
+
+  typed_soundness : (kind : HelperType) (past : List TokenKind)
+      → Sound (MemberRead d (helper_keyword kind ∷ past)) (d - 1) (helper_keyword kind ∷ past)
+      (typed_member d inner kind (helper_keyword kind ∷ past))
+  unfolding typed_member
+  typed_soundness kind past =
+      elim (cases_Bool (is_heading past)) [
+        | inl is ↦ rw is (helper_soundness kind past)
+        | inr is ↦ rw is (fields_member (helper_keyword kind ∷ past))
+      ]
+
   member_soundness : (tokens : List TokenKind)
       → Sound (MemberRead d tokens) (d - 1) tokens (member d inner tokens)
   unfolding member
-  member_soundness (token.Keyword keyword.Boolean ∷ rest) =
-      fields_member (token.Keyword keyword.Boolean ∷ rest)
-  member_soundness (token.Keyword keyword.Int ∷ rest) =
-      fields_member (token.Keyword keyword.Int ∷ rest)
+  member_soundness (token.Keyword keyword.Boolean ∷ rest) = typed_soundness helper.Boolean rest
+  member_soundness (token.Keyword keyword.Int ∷ rest) = typed_soundness helper.Int rest
+  member_soundness (token.Keyword keyword.Void ∷ rest) = helper_soundness helper.Void rest
   member_soundness (token.Keyword keyword.Init ∷ rest) = init_soundness rest
   member_soundness (token.Keyword keyword.Prework ∷ rest) =
       phase_member keyword.Prework tree.Prework rest (λ rated block after. refl)

@@ -10,32 +10,22 @@ use Rattle.strc_syntax.specs.declared.tree.StreamType.{StreamType}
 use Rattle.strc_syntax.specs.declared.tree.CompositeKind.{CompositeKind}
 use Rattle.strc_syntax.specs.Tree as tree
 use Rattle.strc_grammar.specs.Grammar.{row_spelled, block_spelled, each_spelled, member_spelled}
-use Rattle.strc_grammar.specs.Grammar.{kind_keyword, parameters_spelled, listed_parameters_spelled}
-use Rattle.strc_grammar.specs.Grammar.{next_parameter_spelled, stream_spelled, declaration_spelled}
-use Rattle.strc_grammar.specs.Grammar.{spelling, AreStmts, IsMember, IsStream, IsTree, row_height}
-use Rattle.strc_grammar.specs.Grammar.{member_height, highest, stream_height, declaration_height}
-use Rattle.strc_grammar.specs.Grammar.{height}
+use Rattle.strc_grammar.specs.Grammar.{kind_keyword, parameters_spelled, stream_spelled}
+use Rattle.strc_grammar.specs.Grammar.{declaration_spelled, spelling, AreStmts, IsMember, IsStream}
+use Rattle.strc_grammar.specs.Grammar.{IsTree, row_height, member_height, highest, stream_height}
+use Rattle.strc_grammar.specs.Grammar.{declaration_height, height}
 use Rattle.strc_grammar.specs.Reading.{is_keyword, name}
 use Rattle.strc_grammar.specs.Streams.{heading, filter, composite, stream, declaration, at_end}
 use Rattle.strc_grammar.specs.Streams.{declarations}
 use Rattle.strc_grammar.proofs.Completeness.{Complete, Complete-then, expect_punctuation}
+use Rattle.strc_grammar.proofs.Completeness.{Complete-done}
 use Rattle.strc_grammar.proofs.Lists.{ItemCompleteness, each_completeness}
-use Rattle.strc_grammar.proofs.VariableCompleteness.{Complete-done}
 use Rattle.strc_grammar.proofs.ArgumentCompleteness.{parameters_completeness}
 use Rattle.strc_grammar.proofs.ArgumentCompleteness.{stream_type_completeness, kind_read}
 use Rattle.strc_grammar.proofs.ArgumentCompleteness.{kind_is_no_filter}
 use Rattle.strc_grammar.proofs.StatementCompleteness.{listed, row_listed, row_length, member_length}
+use Rattle.strc_grammar.proofs.StatementCompleteness.{listed_parameters_length}
 use Rattle.strc_grammar.proofs.TreeCompleteness.{statements_completeness, members_completeness}
-
-nexts_length : (others : List (List ℕ)) (rest : List TokenKind)
-    → length rest ≤ length (each_spelled next_parameter_spelled others rest)
-nexts_length [] rest = omega arith
-nexts_length (x ∷ others) rest = omega (arith, nexts_length others rest)
-
-pub listed_parameters_length : (xs : List (List ℕ)) (rest : List TokenKind)
-    → length rest ≤ length (listed_parameters_spelled xs rest)
-listed_parameters_length [] rest = omega arith
-listed_parameters_length (x ∷ others) rest = omega (arith, nexts_length others rest)
 
 pub parameters_length : (given : Option (List (List ℕ))) (rest : List TokenKind)
     → length rest ≤ length (parameters_spelled given rest)

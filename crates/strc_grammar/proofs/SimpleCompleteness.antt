@@ -1,6 +1,6 @@
 -- Assignments and expressions as statements, and the parts of a `for`, are read again.
-use Rattle.std.proofs.Common.{◌≡◌, ℕ, suc, ◌+◌, ◌-◌, ◌≤◌, max, true, false, List, ◌∷◌, length}
-use Rattle.std.proofs.Common.{Option, Some, None, Ok, refl, arith}
+use Rattle.std.proofs.Common.{◌≡◌, ℕ, suc, ◌+◌, ◌-◌, ◌≤◌, max, false, List, ◌∷◌, length, Option}
+use Rattle.std.proofs.Common.{Some, None, Ok, refl, arith}
 use denote.Enum.Bare.{true_same}
 use Rattle.strc_lex.specs.contracts.token.Punctuation.{the_type as punctuation_type}
 use Rattle.strc_lex.specs.declared.token.TokenKind.{TokenKind}
@@ -8,195 +8,32 @@ use Rattle.strc_lex.specs.declared.token.TokenKind.TheVariants as token
 use Rattle.strc_lex.specs.declared.token.Keyword.TheVariants as keyword
 use Rattle.strc_lex.specs.declared.token.Punctuation.{Punctuation}
 use Rattle.strc_lex.specs.declared.token.Punctuation.TheVariants as punctuation
-use Rattle.strc_syntax.specs.declared.tree.UnaryOperator.TheVariants as unary
-use Rattle.strc_syntax.specs.declared.tree.StepOperator.TheVariants as step
 use Rattle.strc_syntax.specs.declared.tree.AssignOperator.{AssignOperator}
 use Rattle.strc_syntax.specs.declared.tree.AssignOperator.TheVariants as assign
 use Rattle.strc_syntax.specs.Tree as tree
-use Rattle.strc_grammar.specs.Grammar.{binary_punctuation, assign_punctuation, expr_spelled}
-use Rattle.strc_grammar.specs.Grammar.{declared_spelled, part_spelled, condition_spelled}
-use Rattle.strc_grammar.specs.Grammar.{bracketed_spelled, heading_spelled, lowest_precedence}
-use Rattle.strc_grammar.specs.Grammar.{IsExpr, IsOptional, IsStep, IsFirst, expr_height}
-use Rattle.strc_grammar.specs.Grammar.{optional_height, declared_height, stmt_height}
+use Rattle.strc_grammar.specs.Grammar.{assign_punctuation, expr_spelled, declared_spelled}
+use Rattle.strc_grammar.specs.Grammar.{part_spelled, optional_spelled, bracketed_spelled}
+use Rattle.strc_grammar.specs.Grammar.{heading_spelled, lowest_precedence, IsExpr, IsOptional}
+use Rattle.strc_grammar.specs.Grammar.{IsStep, IsFirst, expr_height, optional_height}
+use Rattle.strc_grammar.specs.Grammar.{declared_height, stmt_height}
 use Rattle.strc_grammar.specs.Reading.{◌>>=◌, punctuation_at, is_punctuation, is_keyword, brace}
 use Rattle.strc_grammar.specs.Reading.{declare, evaluate, assign_to, assign_element, assign_at}
 use Rattle.strc_grammar.specs.Reading.{assignment, after_value, simple, optional, part, ended}
-use Rattle.strc_grammar.specs.Reading.{bracketed, argument, condition, last_part, after_first}
-use Rattle.strc_grammar.specs.Reading.{for_heading}
+use Rattle.strc_grammar.specs.Reading.{bracketed, argument, optional_value, last_part, after_first}
+use Rattle.strc_grammar.specs.Reading.{for_heading, return_value}
 use Rattle.strc_grammar.specs.Streams.{Inner, keyword_statement, shallow}
 use Rattle.strc_grammar.proofs.Completeness.{Complete, Complete-then, Complete-inside}
 use Rattle.strc_grammar.proofs.Completeness.{Complete-leaf, Complete-raised, expect_punctuation}
-use Rattle.strc_grammar.proofs.ExpressionCompleteness.{Stops-semicolon, Stops-bracket, Stops-assign}
-use Rattle.strc_grammar.proofs.ExpressionCompleteness.{expr_length, height_some}
+use Rattle.strc_grammar.proofs.Completeness.{Complete-done}
+use Rattle.strc_grammar.proofs.Stops.{Stops-semicolon, Stops-bracket, Stops-assign, expr_length}
+use Rattle.strc_grammar.proofs.Stops.{height_some}
 use Rattle.strc_grammar.proofs.ExpressionCompleteness.{expression_completeness, closed_completeness}
-use Rattle.strc_grammar.proofs.ExpressionCompleteness.{found}
+use Rattle.strc_grammar.proofs.ListedCompleteness.{found}
+use Rattle.strc_grammar.proofs.Opens.{Opens, opens_name, opens}
 use Rattle.strc_grammar.proofs.VariableCompleteness.{Ends, Ends-semicolon, Ends-bracket}
-use Rattle.strc_grammar.proofs.VariableCompleteness.{Complete-done, declared_length}
-use Rattle.strc_grammar.proofs.VariableCompleteness.{fields_completeness}
+use Rattle.strc_grammar.proofs.VariableCompleteness.{declared_length, fields_completeness}
 
--- ---- how an expression begins
-
--- tokens that begin as an expression does
-pub record Opens (tokens : List TokenKind) : Type 0 where
-  pub no_semicolon : is_punctuation punctuation.Semicolon tokens ≡ false
-  pub no_bracket : is_punctuation punctuation.CloseParen tokens ≡ false
-  no_brace : brace tokens ≡ None
-  no_else : is_keyword keyword.Else tokens ≡ false
-  is_part : (depth : ℕ) → part depth tokens ≡ optional depth punctuation.Semicolon tokens
-  is_ended : (depth : ℕ) (inner : Inner) → shallow depth inner tokens ≡ ended depth tokens
-
-opens_name : (x : List ℕ) (rest : List TokenKind) → Opens (token.Name x ∷ rest)
-unfolding shallow part brace is_punctuation is_keyword
-opens_name x rest = record {
-  no_semicolon = refl;
-  no_bracket = refl;
-  no_brace = refl;
-  no_else = refl;
-  is_part = λ depth.
-      refl;
-  is_ended = λ depth inner. refl;
-}
-
-pub opens : (e : tree.Expr) (rest : List TokenKind) → Opens (expr_spelled e rest)
-unfolding shallow keyword_statement part brace is_punctuation is_keyword
-opens (tree.Number value) rest = record {
-  no_semicolon = refl;
-  no_bracket = refl;
-  no_brace = refl;
-  no_else = refl;
-  is_part = λ depth.
-      refl;
-  is_ended = λ depth inner. refl;
-}
-opens (tree.Truth true) rest = record {
-  no_semicolon = refl;
-  no_bracket = refl;
-  no_brace = refl;
-  no_else = refl;
-  is_part = λ depth.
-      refl;
-  is_ended = λ depth inner. refl;
-}
-opens (tree.Truth false) rest = record {
-  no_semicolon = refl;
-  no_bracket = refl;
-  no_brace = refl;
-  no_else = refl;
-  is_part = λ depth.
-      refl;
-  is_ended = λ depth inner. refl;
-}
-opens (tree.Read x) rest = opens_name x rest
-opens (tree.Element x at) rest = opens_name x
-    (token.Punctuation punctuation.OpenBracket ∷ expr_spelled at
-    (token.Punctuation punctuation.CloseBracket ∷ rest))
-opens tree.Pop rest = record {
-  no_semicolon = refl;
-  no_bracket = refl;
-  no_brace = refl;
-  no_else = refl;
-  is_part = λ depth.
-      refl;
-  is_ended = λ depth inner. refl;
-}
-opens (tree.Peek at) rest = record {
-  no_semicolon = refl;
-  no_bracket = refl;
-  no_brace = refl;
-  no_else = refl;
-  is_part = λ depth.
-      refl;
-  is_ended = λ depth inner. refl;
-}
-opens (tree.Group inner) rest = record {
-  no_semicolon = refl;
-  no_bracket = refl;
-  no_brace = refl;
-  no_else = refl;
-  is_part = λ depth.
-      refl;
-  is_ended = λ depth inner. refl;
-}
-opens (tree.Unary unary.Negate operand) rest = record {
-  no_semicolon = refl;
-  no_bracket = refl;
-  no_brace = refl;
-  no_else = refl;
-  is_part = λ depth.
-      refl;
-  is_ended = λ depth inner. refl;
-}
-opens (tree.Unary unary.Not operand) rest = record {
-  no_semicolon = refl;
-  no_bracket = refl;
-  no_brace = refl;
-  no_else = refl;
-  is_part = λ depth.
-      refl;
-  is_ended = λ depth inner. refl;
-}
-opens (tree.Unary unary.Complement operand) rest = record {
-  no_semicolon = refl;
-  no_bracket = refl;
-  no_brace = refl;
-  no_else = refl;
-  is_part = λ depth.
-      refl;
-  is_ended = λ depth inner. refl;
-}
-opens (tree.Step step.IncrementFirst x) rest = record {
-  no_semicolon = refl;
-  no_bracket = refl;
-  no_brace = refl;
-  no_else = refl;
-  is_part = λ depth.
-      refl;
-  is_ended = λ depth inner. refl;
-}
-opens (tree.Step step.DecrementFirst x) rest = record {
-  no_semicolon = refl;
-  no_bracket = refl;
-  no_brace = refl;
-  no_else = refl;
-  is_part = λ depth.
-      refl;
-  is_ended = λ depth inner. refl;
-}
-opens (tree.Step step.IncrementAfter x) rest = opens_name x
-    (token.Punctuation punctuation.PlusPlus ∷ rest)
-opens (tree.Step step.DecrementAfter x) rest = opens_name x
-    (token.Punctuation punctuation.MinusMinus ∷ rest)
-opens (tree.StepElement step.IncrementFirst x at) rest = record {
-  no_semicolon = refl;
-  no_bracket = refl;
-  no_brace = refl;
-  no_else = refl;
-  is_part = λ depth.
-      refl;
-  is_ended = λ depth inner. refl;
-}
-opens (tree.StepElement step.DecrementFirst x at) rest = record {
-  no_semicolon = refl;
-  no_bracket = refl;
-  no_brace = refl;
-  no_else = refl;
-  is_part = λ depth.
-      refl;
-  is_ended = λ depth inner. refl;
-}
-opens (tree.StepElement step.IncrementAfter x at) rest = opens_name x
-    (token.Punctuation punctuation.OpenBracket ∷ expr_spelled at
-    (token.Punctuation punctuation.CloseBracket ∷ token.Punctuation punctuation.PlusPlus ∷
-    rest))
-opens (tree.StepElement step.DecrementAfter x at) rest = opens_name x
-    (token.Punctuation punctuation.OpenBracket ∷ expr_spelled at
-    (token.Punctuation punctuation.CloseBracket ∷ token.Punctuation punctuation.MinusMinus ∷
-    rest))
-opens (tree.Binary o left right) rest = opens left
-    (token.Punctuation (binary_punctuation o) ∷ expr_spelled right rest)
-opens (tree.Conditional c a b) rest = opens c
-    (token.Punctuation punctuation.Question ∷ expr_spelled a
-    (token.Punctuation punctuation.Colon ∷ expr_spelled b rest))
+-- ---- how a statement begins that has an expression
 
 opens_step : (s : tree.Stmt) → IsStep s → (s ≡ tree.Empty → ⊥) → (rest : List TokenKind) → Opens
     (part_spelled s rest)
@@ -408,12 +245,12 @@ module _ (d : ℕ) (rest : List TokenKind) where
       (Complete-done (suc d) (stmt_height s) (made s rest) _ low refl))
 
 module _ (d : ℕ) (rest : List TokenKind) where
-  condition_completeness : (tested : Option tree.Expr) → IsOptional tested
+  optional_value_completeness : (tested : Option tree.Expr) → IsOptional tested
       → Complete d (optional_height tested) (tested, optional_height tested, rest)
-      (condition d (condition_spelled tested (token.Punctuation punctuation.Semicolon ∷ rest)))
-  unfolding condition is_punctuation
-  condition_completeness None shape = Complete-done d 0 (None, 0, rest) _ (omega arith) refl
-  condition_completeness (Some e) shape =
+      (optional_value d (optional_spelled tested (token.Punctuation punctuation.Semicolon ∷ rest)))
+  unfolding optional_value is_punctuation
+  optional_value_completeness None shape = Complete-done d 0 (None, 0, rest) _ (omega arith) refl
+  optional_value_completeness (Some e) shape =
       let stays : is_punctuation punctuation.Semicolon
       (expr_spelled e (token.Punctuation punctuation.Semicolon ∷ rest)) ≡ false =
       (opens e (token.Punctuation punctuation.Semicolon ∷ rest)).no_semicolon in
@@ -433,7 +270,7 @@ module _ (d : ℕ) (rest : List TokenKind) where
       IsStep stepped
       → Complete (suc d) (max (optional_height tested) (stmt_height stepped))
       ((tested, stepped), max (optional_height tested) (stmt_height stepped), rest)
-      (after_first (suc d) (condition_spelled tested
+      (after_first (suc d) (optional_spelled tested
       (token.Punctuation punctuation.Semicolon ∷ part_spelled stepped
       (token.Punctuation punctuation.CloseParen ∷ rest))))
   unfolding after_first
@@ -445,7 +282,7 @@ module _ (d : ℕ) (rest : List TokenKind) where
       ((tested, stepped), high, rest) in
       Complete-then (suc d) (optional_height tested) high
       (tested, optional_height tested, stepping) all _ _
-      (condition_completeness (suc d) stepping tested is_tested) (omega arith) (λ one.
+      (optional_value_completeness (suc d) stepping tested is_tested) (omega arith) (λ one.
       Complete-then (suc d) (stmt_height stepped) high (made stepped rest) all _ _
       (last_completeness d rest stepped is_step) (omega arith) (λ two.
       Complete-done (suc d) high all _ (omega arith) refl))
@@ -457,7 +294,7 @@ module _ (d : ℕ) (rest : List TokenKind) where
       (for_heading (suc d) (heading_spelled begun tested stepped rest))
   unfolding for_heading
   heading_completeness begun tested stepped is_first is_tested is_step =
-      let testing : List TokenKind = condition_spelled tested
+      let testing : List TokenKind = optional_spelled tested
       (token.Punctuation punctuation.Semicolon ∷ part_spelled stepped
       (token.Punctuation punctuation.CloseParen ∷ rest)) in
       let high : ℕ = heading_height begun tested stepped in
@@ -510,6 +347,20 @@ module _ (d : ℕ) (rest : List TokenKind) where
       (make e, expr_height e + 1, rest) _ _ (argument_completeness e shape) (omega arith)
       (λ low. Complete-done (suc d) (expr_height e + 1) (make e, expr_height e + 1, rest) _ low
       refl)
+
+module _ (d : ℕ) (rest : List TokenKind) where
+  pub return_completeness : (value : Option tree.Expr) → IsOptional value
+      → Complete (suc d) (optional_height value + 1) (made (tree.Return value) rest)
+      (return_value (suc d) (optional_spelled value (token.Punctuation punctuation.Semicolon
+      ∷ rest)))
+  unfolding return_value
+  return_completeness value shape =
+      let same : suc d - 1 ≡ d = omega arith in
+      rw same (Complete-inside d (optional_height value) (optional_height value + 1)
+      (value, optional_height value, rest) (made (tree.Return value) rest) _ _
+      (optional_value_completeness d rest value shape) (omega arith)
+      (λ low. Complete-raised (suc d) (optional_height value) (made (tree.Return value) rest) _
+      refl))
 
 -- ---- how a statement with a semicolon begins
 
@@ -567,6 +418,7 @@ stmt_height_some (tree.For begun tested stepped body) = omega arith
 stmt_height_some (tree.Push e) = omega arith
 stmt_height_some (tree.Print e) = omega arith
 stmt_height_some (tree.Println e) = omega arith
+stmt_height_some (tree.Return value) = omega arith
 stmt_height_some (tree.Compose c) = omega arith
 
 -- a part has no more height than tokens, with its semicolon
@@ -593,10 +445,10 @@ step_first (tree.Assign x o e) shape = shape
 step_first (tree.AssignElement x at o e) shape = shape
 step_first _ shape = absurd shape
 
-pub condition_length : (tested : Option tree.Expr) (rest : List TokenKind) → optional_height tested
-    + length rest ≤ length (condition_spelled tested rest)
-condition_length None rest = omega arith
-condition_length (Some e) rest = omega (arith, expr_length e rest)
+pub optional_length : (tested : Option tree.Expr) (rest : List TokenKind) → optional_height tested
+    + length rest ≤ length (optional_spelled tested rest)
+optional_length None rest = omega arith
+optional_length (Some e) rest = omega (arith, expr_length e rest)
 
 pub heading_length : (begun : tree.Stmt) (tested : Option tree.Expr) (stepped : tree.Stmt) →
     IsFirst begun → IsStep stepped → (rest : List TokenKind)
@@ -605,12 +457,12 @@ pub heading_length : (begun : tree.Stmt) (tested : Option tree.Expr) (stepped : 
 heading_length begun tested stepped is_first is_step rest =
     let stepping : List TokenKind = part_spelled stepped
     (token.Punctuation punctuation.CloseParen ∷ rest) in
-    let testing : List TokenKind = condition_spelled tested
+    let testing : List TokenKind = optional_spelled tested
     (token.Punctuation punctuation.Semicolon ∷ stepping) in
     omega (
       arith,
       part_length begun is_first (token.Punctuation punctuation.Semicolon ∷ testing),
-      condition_length tested (token.Punctuation punctuation.Semicolon ∷ stepping),
+      optional_length tested (token.Punctuation punctuation.Semicolon ∷ stepping),
       part_length stepped (step_first stepped is_step)
           (token.Punctuation punctuation.CloseParen ∷ rest),
     )

@@ -1,8 +1,7 @@
 -- What is read as a declaration, an assignment or an expression, or as a part of a `for`, is one,
 -- and these are its tokens.
-use Rattle.std.proofs.Common.{◌≡◌, ℕ, suc, ◌+◌, ◌-◌, ◌≤◌, max, Bool, true, false, cond, List, []}
-use Rattle.std.proofs.Common.{◌∷◌, ◌++◌, length, Option, Some, None, Ok, refl, sym, ap, subst, ◌∙◌}
-use Rattle.std.proofs.Common.{arith, inl, inr}
+use Rattle.std.proofs.Common.{◌≡◌, ℕ, suc, ◌+◌, ◌-◌, ◌≤◌, max, List, [], ◌∷◌, ◌++◌, length, Option}
+use Rattle.std.proofs.Common.{Some, None, Ok, refl, sym, ap, subst, ◌∙◌, arith, inl, inr}
 use Rattle.std.proofs.lemmas.Bool.{cases_Bool}
 use Rattle.strc_lex.specs.declared.token.TokenKind.{TokenKind}
 use Rattle.strc_lex.specs.declared.token.TokenKind.TheVariants as token
@@ -15,7 +14,7 @@ use Rattle.strc_syntax.specs.Tree as tree
 use Rattle.strc_grammar.specs.Grammar.{assign_punctuation, expr_spelled, highest, type_spelled}
 use Rattle.strc_grammar.specs.Grammar.{initial_spelled, variable_spelled, next_spelled}
 use Rattle.strc_grammar.specs.Grammar.{variables_spelled, declared_spelled, part_spelled}
-use Rattle.strc_grammar.specs.Grammar.{condition_spelled, bracketed_spelled, heading_spelled}
+use Rattle.strc_grammar.specs.Grammar.{optional_spelled, bracketed_spelled, heading_spelled}
 use Rattle.strc_grammar.specs.Grammar.{lowest_precedence, IsExpr, IsOptional, IsVariableType}
 use Rattle.strc_grammar.specs.Grammar.{IsVariable, AreVariables, IsStep, IsFirst, expr_height}
 use Rattle.strc_grammar.specs.Grammar.{optional_height, type_height, variable_height}
@@ -26,16 +25,17 @@ use Rattle.strc_grammar.specs.Reading.{next_variable, more_variables, variables,
 use Rattle.strc_grammar.specs.Reading.{variable_type, declared, declare, evaluate, assign_to}
 use Rattle.strc_grammar.specs.Reading.{assign_element, assign_at, assign_by, assignment}
 use Rattle.strc_grammar.specs.Reading.{after_value_by, after_value, simple, optional, part, ended}
-use Rattle.strc_grammar.specs.Reading.{bracketed, argument, condition, last_part, after_first}
+use Rattle.strc_grammar.specs.Reading.{bracketed, argument, optional_value, last_part, after_first}
 use Rattle.strc_grammar.specs.Reading.{for_heading}
-use Rattle.strc_grammar.proofs.ExpressionCompleteness.{expr_length}
+use Rattle.strc_grammar.proofs.Stops.{expr_length}
 use Rattle.strc_grammar.proofs.VariableCompleteness.{variable_length, type_length}
 use Rattle.strc_grammar.proofs.SimpleCompleteness.{heading_height, part_length, step_first}
-use Rattle.strc_grammar.proofs.SimpleCompleteness.{condition_length, stmt_height_some}
+use Rattle.strc_grammar.proofs.SimpleCompleteness.{optional_length, stmt_height_some}
 use Rattle.strc_grammar.proofs.Soundness.{Sound, Sound-then, Sound-on, Sound-expect, Sound-name}
 use Rattle.strc_grammar.proofs.Soundness.{Sound-raised, Stopped, repeated_soundness, punctuation_is}
-use Rattle.strc_grammar.proofs.Soundness.{each_spelled-push, highest-push, All-push}
-use Rattle.strc_grammar.proofs.ExpressionSoundness.{ExprRead, ClosedRead, closed_soundness}
+use Rattle.strc_grammar.proofs.Soundness.{comma_is, no_comma_is, each_spelled-push, highest-push}
+use Rattle.strc_grammar.proofs.Soundness.{All-push}
+use Rattle.strc_grammar.proofs.ExpressionRead.{ExprRead, ClosedRead, closed_soundness}
 use Rattle.strc_grammar.proofs.ExpressionSoundness.{expression_soundness}
 
 abbrev count : List TokenKind → ℕ
@@ -141,27 +141,6 @@ AreVariables-push : (front : List tree.Variable) (v : tree.Variable) → AreVari
     → IsVariable v → AreVariables (front ++ v ∷ [])
 AreVariables-push [] v shape one = absurd shape
 AreVariables-push (w ∷ front) v shape one = (shape.0, All-push IsVariable front v shape.1 one)
-
-pub comma_is : (tokens : List TokenKind) → no_comma tokens ≡ None
-    → tokens ≡ token.Punctuation punctuation.Comma ∷ tail tokens
-unfolding no_comma
-comma_is tokens e =
-    elim (cases_Bool (is_punctuation punctuation.Comma tokens)) [
-      | inl is ↦ punctuation_is punctuation.Comma tokens is
-      | inr is ↦ let left : cond false None (Some tokens) ≡ None =
-          subst (λ (b : Bool). cond b None (Some tokens) ≡ None) is e in absurd cc
-    ]
-
-pub no_comma_is : (tokens after : List TokenKind) → no_comma tokens ≡ Some after → tokens ≡ after
-unfolding no_comma
-no_comma_is tokens after e =
-    elim (cases_Bool (is_punctuation punctuation.Comma tokens)) [
-      | inl is ↦ let taken : cond true None (Some tokens) ≡ Some after =
-          subst (λ (b : Bool). cond b None (Some tokens) ≡ Some after) is e in
-          absurd cc
-      | inr is ↦ let left : cond false None (Some tokens) ≡ Some after =
-          subst (λ (b : Bool). cond b None (Some tokens) ≡ Some after) is e in cc
-    ]
 
 module _ (depth : ℕ) (all : List TokenKind) where
   next_soundness : (so_far : List tree.Variable × ℕ) (tokens : List TokenKind)
@@ -547,18 +526,18 @@ last_soundness d tokens =
       low = read.low;
     }))
 
-record ConditionRead (depth : ℕ) (tokens : List TokenKind)
+pub record OptionalRead (depth : ℕ) (tokens : List TokenKind)
     (x : Option tree.Expr × ℕ × List TokenKind) : Type 0 where
-  spelled : tokens ≡ condition_spelled x.0 (token.Punctuation punctuation.Semicolon ∷ x.2)
-  shape : IsOptional x.0
-  high : x.1 ≡ optional_height x.0
-  low : x.1 ≤ depth
+  pub spelled : tokens ≡ optional_spelled x.0 (token.Punctuation punctuation.Semicolon ∷ x.2)
+  pub shape : IsOptional x.0
+  pub high : x.1 ≡ optional_height x.0
+  pub low : x.1 ≤ depth
 
-condition_soundness : (depth : ℕ) (tokens : List TokenKind)
-    → Sound (ConditionRead depth tokens) depth tokens (condition depth tokens)
-unfolding condition
-condition_soundness depth tokens =
-    let Q : Option tree.Expr × ℕ × List TokenKind → Type 0 = ConditionRead depth tokens in
+pub optional_value_soundness : (depth : ℕ) (tokens : List TokenKind)
+    → Sound (OptionalRead depth tokens) depth tokens (optional_value depth tokens)
+unfolding optional_value
+optional_value_soundness depth tokens =
+    let Q : Option tree.Expr × ℕ × List TokenKind → Type 0 = OptionalRead depth tokens in
     elim (cases_Bool (is_punctuation punctuation.Semicolon tokens)) [
       | inl is ↦
           let none : Q (None, 0, tail tokens) =
@@ -589,7 +568,7 @@ condition_soundness depth tokens =
 -- the condition and the step of a `for`
 record BehindRead (depth : ℕ) (tokens : List TokenKind)
     (x : (Option tree.Expr × tree.Stmt) × ℕ × List TokenKind) : Type 0 where
-  spelled : tokens ≡ condition_spelled x.0.0
+  spelled : tokens ≡ optional_spelled x.0.0
       (token.Punctuation punctuation.Semicolon
       ∷ part_spelled x.0.1 (token.Punctuation punctuation.CloseParen ∷ x.2))
   tested : IsOptional x.0.0
@@ -604,15 +583,16 @@ unfolding after_first
 past_soundness d all tokens le =
     let Q : (Option tree.Expr × tree.Stmt) × ℕ × List TokenKind → Type 0 =
     BehindRead (suc d) tokens in
-    Sound-then (ConditionRead (suc d) tokens) Q d all (condition (suc d) tokens) _
-    (Sound-on (ConditionRead (suc d) tokens) (ConditionRead (suc d) tokens) (suc d) d tokens all
-    (condition (suc d) tokens) (omega arith) (omega arith) (condition_soundness (suc d) tokens)
+    Sound-then (OptionalRead (suc d) tokens) Q d all (optional_value (suc d) tokens) _
+    (Sound-on (OptionalRead (suc d) tokens) (OptionalRead (suc d) tokens) (suc d) d tokens all
+    (optional_value (suc d) tokens) (omega arith) (omega arith)
+    (optional_value_soundness (suc d) tokens)
     (λ y h. h)) (λ y tested.
     let three : length y.2 ≤ length tokens =
     omega (
       arith,
       ap count tested.spelled,
-      condition_length y.0 (token.Punctuation punctuation.Semicolon ∷ y.2),
+      optional_length y.0 (token.Punctuation punctuation.Semicolon ∷ y.2),
     ) in
     Sound-then (EndedRead IsStep punctuation.CloseParen (suc d) y.2) Q d all
     (last_part (suc d) y.2) _
@@ -620,7 +600,7 @@ past_soundness d all tokens le =
     (EndedRead IsStep punctuation.CloseParen (suc d) y.2) d d y.2 all (last_part (suc d) y.2)
     (omega arith) (omega arith) (last_soundness d y.2) (λ z h. h)) (λ z stepped.
     record {
-      spelled = tested.spelled ∙ ap (λ (ts : List TokenKind). condition_spelled y.0
+      spelled = tested.spelled ∙ ap (λ (ts : List TokenKind). optional_spelled y.0
           (token.Punctuation punctuation.Semicolon ∷ ts)) stepped.spelled;
       tested = tested.shape;
       stepped = stepped.shape;

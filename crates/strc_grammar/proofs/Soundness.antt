@@ -18,7 +18,7 @@ use Rattle.strc_lex.specs.declared.token.Punctuation.TheVariants as punctuation
 use Rattle.strc_grammar.specs.Grammar.{each_spelled, highest}
 use Rattle.strc_grammar.specs.Reading.{◌>>=◌, Read, tail, unexpected, is_punctuation, is_keyword}
 use Rattle.strc_grammar.specs.Reading.{expect, expect_keyword, name, raised, repeated_by, repeated}
-use Rattle.strc_grammar.specs.Reading.{brace}
+use Rattle.strc_grammar.specs.Reading.{brace, no_comma}
 use Rattle.strc_grammar.proofs.Completeness.{raised_low, raised_high}
 
 -- What was read is good; a refused token is within; and where trees nest too deep, there are as
@@ -249,6 +249,27 @@ brace_is tokens after e =
           let left : cond false (Some (tail tokens)) None ≡ Some after =
           subst (λ (b : Bool). cond b (Some (tail tokens)) None ≡ Some after) is e in
           absurd cc
+    ]
+
+pub comma_is : (tokens : List TokenKind) → no_comma tokens ≡ None
+    → tokens ≡ token.Punctuation punctuation.Comma ∷ tail tokens
+unfolding no_comma
+comma_is tokens e =
+    elim (cases_Bool (is_punctuation punctuation.Comma tokens)) [
+      | inl is ↦ punctuation_is punctuation.Comma tokens is
+      | inr is ↦ let left : cond false None (Some tokens) ≡ None =
+          subst (λ (b : Bool). cond b None (Some tokens) ≡ None) is e in absurd cc
+    ]
+
+pub no_comma_is : (tokens after : List TokenKind) → no_comma tokens ≡ Some after → tokens ≡ after
+unfolding no_comma
+no_comma_is tokens after e =
+    elim (cases_Bool (is_punctuation punctuation.Comma tokens)) [
+      | inl is ↦ let taken : cond true None (Some tokens) ≡ Some after =
+          subst (λ (b : Bool). cond b None (Some tokens) ≡ Some after) is e in
+          absurd cc
+      | inr is ↦ let left : cond false None (Some tokens) ≡ Some after =
+          subst (λ (b : Bool). cond b None (Some tokens) ≡ Some after) is e in cc
     ]
 
 -- ---- lists that grow at their end

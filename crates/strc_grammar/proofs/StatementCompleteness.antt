@@ -12,27 +12,30 @@ use Rattle.strc_syntax.specs.declared.tree.Brackets.{Brackets}
 use Rattle.strc_syntax.specs.declared.tree.Brackets.TheVariants as brackets
 use Rattle.strc_syntax.specs.Tree as tree
 use Rattle.strc_grammar.specs.Grammar.{each_spelled, highest, part_spelled, bracketed_spelled}
-use Rattle.strc_grammar.specs.Grammar.{brackets_spelled, next_argument_spelled, listed_spelled}
-use Rattle.strc_grammar.specs.Grammar.{arguments_spelled, rate_spelled, block_spelled, stmt_spelled}
-use Rattle.strc_grammar.specs.Grammar.{row_spelled, composition_spelled, child_spelled}
-use Rattle.strc_grammar.specs.Grammar.{member_spelled, members_spelled, IsExpr, IsOptional, IsFirst}
-use Rattle.strc_grammar.specs.Grammar.{IsStep, takes_else, IsStmt, AreStmts, IsComposition, IsChild}
+use Rattle.strc_grammar.specs.Grammar.{brackets_spelled, arguments_spelled, rate_spelled}
+use Rattle.strc_grammar.specs.Grammar.{block_spelled, stmt_spelled, row_spelled}
+use Rattle.strc_grammar.specs.Grammar.{composition_spelled, child_spelled, member_spelled}
+use Rattle.strc_grammar.specs.Grammar.{members_spelled, IsExpr, IsOptional, IsFirst, IsStep}
+use Rattle.strc_grammar.specs.Grammar.{takes_else, IsStmt, AreStmts, IsComposition, IsChild}
 use Rattle.strc_grammar.specs.Grammar.{IsMember, AreMembers, expr_height, arguments_height}
 use Rattle.strc_grammar.specs.Grammar.{rate_height, stmt_height, row_height, composition_height}
 use Rattle.strc_grammar.specs.Grammar.{child_height, member_height, members_height}
+use Rattle.strc_grammar.specs.Grammar.{next_parameter_spelled, listed_parameters_spelled}
 use Rattle.strc_grammar.specs.Reading.{is_punctuation, is_keyword, brace}
 use Rattle.strc_syntax.specs.Tree.{row}
 use Rattle.strc_grammar.specs.Streams.{statements, block, other_branch, after_branch, branch}
 use Rattle.strc_grammar.specs.Streams.{while_loop, for_loop, keyword_statement, shallow, statement}
 use Rattle.strc_grammar.proofs.Completeness.{Complete, Complete-then, Complete-inside}
 use Rattle.strc_grammar.proofs.Completeness.{Complete-raised}
-use Rattle.strc_grammar.proofs.ExpressionCompleteness.{expr_length, found}
+use Rattle.strc_grammar.proofs.ListedCompleteness.{found}
+use Rattle.strc_grammar.proofs.Stops.{expr_length}
+use Rattle.strc_grammar.proofs.Given.{listed_length}
 use Rattle.strc_grammar.proofs.Lists.{TallCompleteness, each_taller_completeness}
 use Rattle.strc_grammar.proofs.VariableCompleteness.{declared_length}
 use Rattle.strc_grammar.proofs.SimpleCompleteness.{made, ended_completeness, heading_height}
 use Rattle.strc_grammar.proofs.SimpleCompleteness.{heading_completeness, bracketed_completeness}
 use Rattle.strc_grammar.proofs.SimpleCompleteness.{begins, part_length, heading_length}
-use Rattle.strc_grammar.proofs.SimpleCompleteness.{stmt_height_some}
+use Rattle.strc_grammar.proofs.SimpleCompleteness.{stmt_height_some, optional_length}
 
 -- ---- how a statement begins
 
@@ -64,6 +67,7 @@ no_brace_before (tree.For begun tested stepped body) shape rest = refl
 no_brace_before (tree.Push e) shape rest = refl
 no_brace_before (tree.Print e) shape rest = refl
 no_brace_before (tree.Println e) shape rest = refl
+no_brace_before (tree.Return value) shape rest = refl
 no_brace_before (tree.Compose c) shape rest = no_brace_composed c rest
 
 abbrev pub NoElse : List TokenKind → Type 0
@@ -96,6 +100,7 @@ no_else_before (tree.For begun tested stepped body) shape rest = refl
 no_else_before (tree.Push e) shape rest = refl
 no_else_before (tree.Print e) shape rest = refl
 no_else_before (tree.Println e) shape rest = refl
+no_else_before (tree.Return value) shape rest = refl
 no_else_before (tree.Compose c) shape rest = no_else_composed c rest
 
 no_else_brace : (rest : List TokenKind) → NoElse (token.Punctuation punctuation.CloseBrace ∷ rest)
@@ -112,25 +117,6 @@ bracketed_length e rest = omega (
       (token.Punctuation punctuation.CloseParen ∷ rest),
 )
 
-pub nexts_length : (others : List tree.Expr) (rest : List TokenKind)
-    → highest expr_height others + length rest
-    ≤ length (each_spelled next_argument_spelled others rest)
-nexts_length [] rest = omega arith
-nexts_length (e ∷ others) rest = omega (
-  arith,
-  expr_length e (each_spelled next_argument_spelled others rest),
-  nexts_length others rest,
-)
-
-pub listed_length : (es : List tree.Expr) (rest : List TokenKind)
-    → highest expr_height es + length rest ≤ length (listed_spelled es rest)
-listed_length [] rest = omega arith
-listed_length (e ∷ others) rest = omega (
-  arith,
-  expr_length e (each_spelled next_argument_spelled others rest),
-  nexts_length others rest,
-)
-
 pub arguments_length : (given : Option (List tree.Expr)) (rest : List TokenKind)
     → arguments_height given + length rest ≤ length (arguments_spelled given rest)
 arguments_length None rest = omega arith
@@ -138,6 +124,16 @@ arguments_length (Some es) rest = omega (
   arith,
   listed_length es (token.Punctuation punctuation.CloseParen ∷ rest),
 )
+
+nexts_length : (others : List (List ℕ)) (rest : List TokenKind)
+    → length rest ≤ length (each_spelled next_parameter_spelled others rest)
+nexts_length [] rest = omega arith
+nexts_length (x ∷ others) rest = omega (arith, nexts_length others rest)
+
+pub listed_parameters_length : (xs : List (List ℕ)) (rest : List TokenKind)
+    → length rest ≤ length (listed_parameters_spelled xs rest)
+listed_parameters_length [] rest = omega arith
+listed_parameters_length (x ∷ others) rest = omega (arith, nexts_length others rest)
 
 pub brackets_length : (pair : Brackets) (rest : List TokenKind)
     → length rest ≤ length (brackets_spelled pair rest)
@@ -207,6 +203,8 @@ mutual
       omega (arith, bracketed_length e (token.Punctuation punctuation.Semicolon ∷ rest))
   stmt_length (tree.Println e) shape rest =
       omega (arith, bracketed_length e (token.Punctuation punctuation.Semicolon ∷ rest))
+  stmt_length (tree.Return value) shape rest = omega
+      (arith, optional_length value (token.Punctuation punctuation.Semicolon ∷ rest))
   stmt_length (tree.Compose c) shape rest = composition_length c shape rest
 
   pub row_length : (body : tree.Stmts) → AreStmts body → (rest : List TokenKind)
@@ -260,6 +258,13 @@ mutual
         arith,
         rates_length rates (block_spelled body rest),
         row_length body shape.1 (token.Punctuation punctuation.CloseBrace ∷ rest),
+      )
+  member_length (tree.Helper kind x parameters body) shape rest =
+      omega (
+        arith,
+        listed_parameters_length parameters
+            (token.Punctuation punctuation.CloseParen ∷ block_spelled body rest),
+        row_length body shape (token.Punctuation punctuation.CloseBrace ∷ rest),
       )
 
   pub members_length : (members : tree.Members) → AreMembers members → (rest : List TokenKind)

@@ -17,11 +17,12 @@ use Rattle.strc_grammar.specs.Grammar.{stmt_spelled, row_spelled, each_spelled, 
 use Rattle.strc_grammar.specs.Grammar.{IsFirst, takes_else, IsStmt, AreStmts, expr_height}
 use Rattle.strc_grammar.specs.Grammar.{stmt_height, row_height}
 use Rattle.strc_grammar.specs.Reading.{◌>>=◌, tail, is_keyword, repeated, brace, one_taller}
-use Rattle.strc_grammar.specs.Reading.{bracketed, argument, ended, for_heading}
+use Rattle.strc_grammar.specs.Reading.{bracketed, argument, ended, for_heading, optional_value}
+use Rattle.strc_grammar.specs.Reading.{return_value}
 use Rattle.strc_syntax.specs.Tree.{row}
 use Rattle.strc_grammar.specs.Streams.{Inner, statements, block, other_branch, after_branch, branch}
 use Rattle.strc_grammar.specs.Streams.{while_loop, for_loop}
-use Rattle.strc_grammar.proofs.ExpressionCompleteness.{expr_length}
+use Rattle.strc_grammar.proofs.Stops.{expr_length}
 use Rattle.strc_grammar.proofs.SimpleCompleteness.{heading_length}
 use Rattle.strc_grammar.proofs.StatementCompleteness.{NoElse, stmt_length}
 use Rattle.strc_grammar.proofs.Soundness.{Sound, Sound-then, Sound-on, Sound-raised, Stopped}
@@ -30,7 +31,8 @@ use Rattle.strc_grammar.proofs.Soundness.{highest-push, All-push}
 use Rattle.strc_grammar.proofs.SimpleSoundness.{EndedRead, ended_soundness, HeadingRead}
 use Rattle.strc_grammar.proofs.SimpleSoundness.{heading_soundness, BracketedRead}
 use Rattle.strc_grammar.proofs.SimpleSoundness.{bracketed_soundness, ArgumentRead}
-use Rattle.strc_grammar.proofs.SimpleSoundness.{argument_soundness}
+use Rattle.strc_grammar.proofs.SimpleSoundness.{argument_soundness, OptionalRead}
+use Rattle.strc_grammar.proofs.SimpleSoundness.{optional_value_soundness}
 
 abbrev count : List TokenKind → ℕ
 count ts = length ts
@@ -126,6 +128,26 @@ module _ (d : ℕ) where
         low = read.low;
         free = λ takes. not_both (takes_else (make x.0)) (takes_none x.0) takes;
       })
+
+  pub return_soundness : (past : List TokenKind)
+      → Sound (StmtRead (suc d) (token.Keyword keyword.Return ∷ past)) d
+      (token.Keyword keyword.Return ∷ past) (return_value (suc d) past)
+  unfolding return_value
+  return_soundness past =
+      let all : List TokenKind = token.Keyword keyword.Return ∷ past in
+      let Q : tree.Stmt × ℕ × List TokenKind → Type 0 = StmtRead (suc d) all in
+      let same : suc d - 1 ≡ d = omega arith in
+      rw same (Sound-then (OptionalRead d past) Q d all (optional_value d past) _
+      (Sound-on (OptionalRead d past) (OptionalRead d past) d d past all (optional_value d past)
+      (omega arith) (omega arith) (optional_value_soundness d past) (λ x h. h)) (λ x value.
+      Sound-raised Q d all (suc d) x.1 (λ height. Ok (tree.Return x.0, height, x.2))
+      (λ lt. record {
+        spelled = ap (λ (ts : List TokenKind). token.Keyword keyword.Return ∷ ts) value.spelled;
+        shape = value.shape;
+        high = ap (λ (n : ℕ). n + 1) value.high;
+        low = omega arith;
+        free = λ takes. not_both (takes_else (tree.Return x.0)) refl takes;
+      }) (λ le. absurd (omega (arith, value.low)))))
 
 -- ---- statements in a row
 

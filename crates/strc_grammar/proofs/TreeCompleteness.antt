@@ -10,7 +10,7 @@ use Rattle.strc_grammar.specs.Grammar.{AreStmts, IsComposition, IsChild, IsMembe
 use Rattle.strc_grammar.specs.Grammar.{row_height, member_height}
 use Rattle.strc_grammar.specs.Streams.{statements, statement, members, keyword_statement, shallow}
 use Rattle.strc_grammar.proofs.Completeness.{Complete}
-use Rattle.strc_grammar.proofs.SimpleCompleteness.{of_argument}
+use Rattle.strc_grammar.proofs.SimpleCompleteness.{of_argument, return_completeness}
 use Rattle.strc_grammar.proofs.StatementCompleteness.{listed, StmtCompleteness, row_completeness}
 use Rattle.strc_grammar.proofs.StatementCompleteness.{block_completeness, if_completeness}
 use Rattle.strc_grammar.proofs.StatementCompleteness.{if_else_completeness, while_completeness}
@@ -63,6 +63,8 @@ mutual
       always (tree.Print e) shape (λ d rest free. of_argument d rest e shape tree.Print)
   stmt_completeness (tree.Println e) shape =
       always (tree.Println e) shape (λ d rest free. of_argument d rest e shape tree.Println)
+  stmt_completeness (tree.Return value) shape =
+      always (tree.Return value) shape (λ d rest free. return_completeness d rest value shape)
   stmt_completeness (tree.Compose c) shape = let inside = part_completeness c shape in
       always (tree.Compose c) shape (λ d rest free. compose_completeness c shape inside d rest)
 
@@ -92,6 +94,7 @@ mutual
   inside_completeness (tree.Init block) shape = rows_completeness block shape
   inside_completeness (tree.Prework declared block) shape = rows_completeness block shape.1
   inside_completeness (tree.Work declared block) shape = rows_completeness block shape.1
+  inside_completeness (tree.Helper kind x given block) shape = rows_completeness block shape
 
   chain_completeness : (ms : tree.Members) → AreMembers ms
       → AllByRecursion MemberCompleteness (unchained ms)

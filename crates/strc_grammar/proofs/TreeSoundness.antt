@@ -9,8 +9,8 @@ use Rattle.strc_syntax.specs.Tree as tree
 use Rattle.strc_grammar.specs.Streams.{Inner, keyword_statement, shallow, statement}
 use Rattle.strc_grammar.proofs.Soundness.{Sound}
 use Rattle.strc_grammar.proofs.StatementSoundness.{StmtRead, ended_stmt, argument_stmt}
-use Rattle.strc_grammar.proofs.StatementSoundness.{block_soundness, branch_soundness}
-use Rattle.strc_grammar.proofs.StatementSoundness.{while_soundness, for_soundness}
+use Rattle.strc_grammar.proofs.StatementSoundness.{return_soundness, block_soundness}
+use Rattle.strc_grammar.proofs.StatementSoundness.{branch_soundness, while_soundness, for_soundness}
 use Rattle.strc_grammar.proofs.CompositionSoundness.{compose_soundness}
 
 module _ (d : ℕ) (inner : Inner) (sound : (tokens : List TokenKind)
@@ -31,6 +31,7 @@ module _ (d : ℕ) (inner : Inner) (sound : (tokens : List TokenKind)
   keyword_statement_soundness keyword.Println past =
       argument_stmt d keyword.Println tree.Println past (λ e. refl) (λ e h. h) (λ e rest. refl)
       (λ e. refl)
+  keyword_statement_soundness keyword.Return past = return_soundness d past
   keyword_statement_soundness keyword.Add past = compose_soundness d inner sound keyword.Add past
   keyword_statement_soundness keyword.Body past = compose_soundness d inner sound keyword.Body past
   keyword_statement_soundness keyword.Loop past = compose_soundness d inner sound keyword.Loop past

@@ -1,11 +1,10 @@
 -- Declarations of variables are read again.
 use Rattle.std.proofs.Common.{◌≡◌, ℕ, ◌+◌, ◌≤◌, max, false, List, [], ◌∷◌, length, Option, Some}
-use Rattle.std.proofs.Common.{None, Result, Ok, refl, arith}
+use Rattle.std.proofs.Common.{None, refl, arith}
 use Rattle.std.specs.List.{AllByRecursion}
 use Rattle.strc_lex.specs.declared.token.TokenKind.{TokenKind}
 use Rattle.strc_lex.specs.declared.token.TokenKind.TheVariants as token
 use Rattle.strc_lex.specs.declared.token.Punctuation.TheVariants as punctuation
-use Rattle.strc_grammar.specs.declared.error.Fault.{Fault}
 use Rattle.strc_syntax.specs.Tree as tree
 use Rattle.strc_grammar.specs.Grammar.{each_spelled, highest, type_spelled, initial_spelled}
 use Rattle.strc_grammar.specs.Grammar.{variable_spelled, next_spelled, variables_spelled}
@@ -16,11 +15,11 @@ use Rattle.strc_grammar.specs.Grammar.{declared_height}
 use Rattle.strc_grammar.specs.Reading.{punctuation_at, is_punctuation, name, initial, variable}
 use Rattle.strc_grammar.specs.Reading.{no_comma, next_variable, more_variables, variables, int_type}
 use Rattle.strc_grammar.specs.Reading.{variable_type, declared, assign_at}
-use Rattle.strc_grammar.proofs.Completeness.{Complete, Complete-then}
-use Rattle.strc_grammar.proofs.ExpressionCompleteness.{Stops, Stops-semicolon, Stops-comma}
-use Rattle.strc_grammar.proofs.ExpressionCompleteness.{Stops-bracket, Stops-square, expr_length}
+use Rattle.strc_grammar.proofs.Completeness.{Complete, Complete-then, Complete-max, Complete-done}
+use Rattle.strc_grammar.proofs.Stops.{Stops, Stops-semicolon, Stops-comma, Stops-bracket}
+use Rattle.strc_grammar.proofs.Stops.{Stops-square, expr_length}
 use Rattle.strc_grammar.proofs.ExpressionCompleteness.{expression_completeness, closed_completeness}
-use Rattle.strc_grammar.proofs.ExpressionCompleteness.{found}
+use Rattle.strc_grammar.proofs.ListedCompleteness.{found}
 use Rattle.strc_grammar.proofs.Lists.{TallCompleteness, each_taller_completeness}
 
 -- what follows an expression that is a statement, an initialiser or a part of a `for`
@@ -43,16 +42,6 @@ pub Ends-comma : (rest : List TokenKind) → Ends (token.Punctuation punctuation
 unfolding assign_at punctuation_at is_punctuation
 Ends-comma rest = record
     { stops = Stops-comma lowest_precedence rest; no_assign = refl; no_initial = refl }
-
--- the higher of two parts that were read
-pub Complete-max : (d low high : ℕ) {Y : Type 0} (y : Y) (read : Result Y Fault) → low ≤ d →
-    Complete d high y read → Complete d (max low high) y read
-Complete-max d low high y read le complete = record
-    { fits = λ h. complete.fits (omega arith); over = λ h. complete.over (omega arith) }
-
-pub Complete-done : (d height : ℕ) {Y : Type 0} (y : Y) (read : Result Y Fault) → height ≤ d → read
-    ≡ Ok y → Complete d height y read
-Complete-done d height y read le e = record { fits = λ h. e; over = λ h. absurd (omega arith) }
 
 -- ---- declarations of variables
 

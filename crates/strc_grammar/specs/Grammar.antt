@@ -19,6 +19,8 @@ use Rattle.strc_syntax.specs.declared.tree.Brackets.{Brackets}
 use Rattle.strc_syntax.specs.declared.tree.Brackets.TheVariants as brackets
 use Rattle.strc_syntax.specs.declared.tree.RateKind.{RateKind}
 use Rattle.strc_syntax.specs.declared.tree.RateKind.TheVariants as rate
+use Rattle.strc_syntax.specs.declared.tree.HelperType.{HelperType}
+use Rattle.strc_syntax.specs.declared.tree.HelperType.TheVariants as helper
 use Rattle.strc_syntax.specs.declared.tree.AssignOperator.{AssignOperator}
 use Rattle.strc_syntax.specs.declared.tree.AssignOperator.TheVariants as assign
 use Rattle.strc_syntax.specs.declared.tree.UnaryOperator.{UnaryOperator}
@@ -88,33 +90,49 @@ abbrev pub truth_keyword : Bool → TokenKind
 truth_keyword true = token.Keyword keyword.True
 truth_keyword false = token.Keyword keyword.False
 
--- the tokens of an expression, before what follows
-abbrev pub expr_spelled : tree.Expr → List TokenKind → List TokenKind
-expr_spelled (tree.Number value) rest = token.Number value ∷ rest
-expr_spelled (tree.Truth value) rest = truth_keyword value ∷ rest
-expr_spelled (tree.Read name) rest = token.Name name ∷ rest
-expr_spelled (tree.Element name index) rest =
-    token.Name name ∷ token.Punctuation punctuation.OpenBracket
-    ∷ expr_spelled index (token.Punctuation punctuation.CloseBracket ∷ rest)
-expr_spelled tree.Pop rest = token.Keyword keyword.Pop ∷ token.Punctuation punctuation.OpenParen
-    ∷ token.Punctuation punctuation.CloseParen ∷ rest
-expr_spelled (tree.Peek index) rest =
-    token.Keyword keyword.Peek ∷ token.Punctuation punctuation.OpenParen
-    ∷ expr_spelled index (token.Punctuation punctuation.CloseParen ∷ rest)
-expr_spelled (tree.Group inner) rest = token.Punctuation punctuation.OpenParen
-    ∷ expr_spelled inner (token.Punctuation punctuation.CloseParen ∷ rest)
-expr_spelled (tree.Unary operator operand) rest =
-    token.Punctuation (unary_punctuation operator) ∷ expr_spelled operand rest
-expr_spelled (tree.Step operator name) rest =
-    step_spelled operator (λ after. token.Name name ∷ after) rest
-expr_spelled (tree.StepElement operator name index) rest =
-    step_spelled operator (λ after. token.Name name ∷ token.Punctuation punctuation.OpenBracket
-    ∷ expr_spelled index (token.Punctuation punctuation.CloseBracket ∷ after)) rest
-expr_spelled (tree.Binary operator left right) rest =
-    expr_spelled left (token.Punctuation (binary_punctuation operator) ∷ expr_spelled right rest)
-expr_spelled (tree.Conditional condition chosen other) rest =
-    expr_spelled condition (token.Punctuation punctuation.Question
-    ∷ expr_spelled chosen (token.Punctuation punctuation.Colon ∷ expr_spelled other rest))
+abbrev mutual
+  -- the tokens of an expression, before what follows
+  pub expr_spelled : tree.Expr → List TokenKind → List TokenKind
+  expr_spelled (tree.Number value) rest = token.Number value ∷ rest
+  expr_spelled (tree.Truth value) rest = truth_keyword value ∷ rest
+  expr_spelled (tree.Read name) rest = token.Name name ∷ rest
+  expr_spelled (tree.Element name index) rest =
+      token.Name name ∷ token.Punctuation punctuation.OpenBracket
+      ∷ expr_spelled index (token.Punctuation punctuation.CloseBracket ∷ rest)
+  expr_spelled tree.Pop rest = token.Keyword keyword.Pop ∷ token.Punctuation punctuation.OpenParen
+      ∷ token.Punctuation punctuation.CloseParen ∷ rest
+  expr_spelled (tree.Peek index) rest =
+      token.Keyword keyword.Peek ∷ token.Punctuation punctuation.OpenParen
+      ∷ expr_spelled index (token.Punctuation punctuation.CloseParen ∷ rest)
+  expr_spelled (tree.Call name arguments) rest =
+      token.Name name ∷ token.Punctuation punctuation.OpenParen
+      ∷ given_spelled arguments (token.Punctuation punctuation.CloseParen ∷ rest)
+  expr_spelled (tree.Group inner) rest = token.Punctuation punctuation.OpenParen
+      ∷ expr_spelled inner (token.Punctuation punctuation.CloseParen ∷ rest)
+  expr_spelled (tree.Unary operator operand) rest =
+      token.Punctuation (unary_punctuation operator) ∷ expr_spelled operand rest
+  expr_spelled (tree.Step operator name) rest =
+      step_spelled operator (λ after. token.Name name ∷ after) rest
+  expr_spelled (tree.StepElement operator name index) rest =
+      step_spelled operator (λ after. token.Name name ∷ token.Punctuation punctuation.OpenBracket
+      ∷ expr_spelled index (token.Punctuation punctuation.CloseBracket ∷ after)) rest
+  expr_spelled (tree.Binary operator left right) rest =
+      expr_spelled left (token.Punctuation (binary_punctuation operator) ∷ expr_spelled right rest)
+  expr_spelled (tree.Conditional condition chosen other) rest =
+      expr_spelled condition (token.Punctuation punctuation.Question
+      ∷ expr_spelled chosen (token.Punctuation punctuation.Colon ∷ expr_spelled other rest))
+
+  -- the arguments of a call, with commas between them
+  pub given_spelled : tree.Arguments → List TokenKind → List TokenKind
+  given_spelled tree.NoArgument rest = rest
+  given_spelled (tree.Argument first others) rest =
+      expr_spelled first (further_spelled others rest)
+
+  -- further arguments, each after its comma
+  pub further_spelled : tree.Arguments → List TokenKind → List TokenKind
+  further_spelled tree.NoArgument rest = rest
+  further_spelled (tree.Argument first others) rest = token.Punctuation punctuation.Comma
+      ∷ expr_spelled first (further_spelled others rest)
 
 -- trees in a row, each as it is spelled
 abbrev pub each_spelled : {A : Type 0} → (A → List TokenKind → List TokenKind) → List A
@@ -167,10 +185,10 @@ part_spelled (tree.AssignElement name index operator value) rest =
     ∷ token.Punctuation (assign_punctuation operator) ∷ expr_spelled value rest)
 part_spelled _ rest = rest
 
--- the condition of a `for`, or nothing
-abbrev pub condition_spelled : Option tree.Expr → List TokenKind → List TokenKind
-condition_spelled None rest = rest
-condition_spelled (Some condition) rest = expr_spelled condition rest
+-- an expression, or nothing
+abbrev pub optional_spelled : Option tree.Expr → List TokenKind → List TokenKind
+optional_spelled None rest = rest
+optional_spelled (Some value) rest = expr_spelled value rest
 
 -- `(e)`
 abbrev pub bracketed_spelled : tree.Expr → List TokenKind → List TokenKind
@@ -183,7 +201,7 @@ abbrev pub heading_spelled : tree.Stmt → Option tree.Expr → tree.Stmt → Li
 heading_spelled first condition step rest =
     token.Punctuation punctuation.OpenParen
     ∷ part_spelled first (token.Punctuation punctuation.Semicolon
-    ∷ condition_spelled condition (token.Punctuation punctuation.Semicolon
+    ∷ optional_spelled condition (token.Punctuation punctuation.Semicolon
     ∷ part_spelled step (token.Punctuation punctuation.CloseParen ∷ rest)))
 
 -- `()`, or nothing
@@ -261,6 +279,32 @@ rate_keyword rate.Peek = token.Keyword keyword.Peek
 abbrev pub rate_spelled : tree.Rate → List TokenKind → List TokenKind
 rate_spelled written rest = rate_keyword written.kind ∷ expr_spelled written.rate rest
 
+-- a parameter: `int n`
+abbrev pub parameter_spelled : List ℕ → List TokenKind → List TokenKind
+parameter_spelled name rest = token.Keyword keyword.Int ∷ token.Name name ∷ rest
+
+-- a further parameter, after its comma
+abbrev pub next_parameter_spelled : List ℕ → List TokenKind → List TokenKind
+next_parameter_spelled name rest = token.Punctuation punctuation.Comma ∷ parameter_spelled name rest
+
+-- parameters with commas between them
+abbrev pub listed_parameters_spelled : List (List ℕ) → List TokenKind → List TokenKind
+listed_parameters_spelled [] rest = rest
+listed_parameters_spelled (first ∷ others) rest =
+    parameter_spelled first (each_spelled next_parameter_spelled others rest)
+
+-- `(int n, int m)`, or nothing
+abbrev pub parameters_spelled : Option (List (List ℕ)) → List TokenKind → List TokenKind
+parameters_spelled None rest = rest
+parameters_spelled (Some parameters) rest =
+    token.Punctuation punctuation.OpenParen
+    ∷ listed_parameters_spelled parameters (token.Punctuation punctuation.CloseParen ∷ rest)
+
+abbrev pub helper_keyword : HelperType → TokenKind
+helper_keyword helper.Int = token.Keyword keyword.Int
+helper_keyword helper.Boolean = token.Keyword keyword.Boolean
+helper_keyword helper.Void = token.Keyword keyword.Void
+
 abbrev mutual
   -- the tokens of a statement, before what follows
   pub stmt_spelled : tree.Stmt → List TokenKind → List TokenKind
@@ -294,6 +338,8 @@ abbrev mutual
   stmt_spelled (tree.Println value) rest =
       token.Keyword keyword.Println ∷ bracketed_spelled value
       (token.Punctuation punctuation.Semicolon ∷ rest)
+  stmt_spelled (tree.Return value) rest = token.Keyword keyword.Return
+      ∷ optional_spelled value (token.Punctuation punctuation.Semicolon ∷ rest)
   stmt_spelled (tree.Compose statement) rest = composition_spelled statement rest
 
   -- the statements of a block, without its braces
@@ -348,6 +394,10 @@ abbrev mutual
       token.Keyword keyword.Work ∷ each_spelled rate_spelled rates
       (token.Punctuation punctuation.OpenBrace
       ∷ row_spelled block (token.Punctuation punctuation.CloseBrace ∷ rest))
+  member_spelled (tree.Helper kind name parameters block) rest =
+      helper_keyword kind ∷ token.Name name ∷ parameters_spelled (Some parameters)
+      (token.Punctuation punctuation.OpenBrace
+      ∷ row_spelled block (token.Punctuation punctuation.CloseBrace ∷ rest))
 
   pub members_spelled : tree.Members → List TokenKind → List TokenKind
   members_spelled tree.NoMember rest = rest
@@ -357,27 +407,6 @@ abbrev mutual
 abbrev pub block_spelled : tree.Stmts → List TokenKind → List TokenKind
 block_spelled block rest = token.Punctuation punctuation.OpenBrace
     ∷ row_spelled block (token.Punctuation punctuation.CloseBrace ∷ rest)
-
--- a parameter: `int n`
-abbrev pub parameter_spelled : List ℕ → List TokenKind → List TokenKind
-parameter_spelled name rest = token.Keyword keyword.Int ∷ token.Name name ∷ rest
-
--- a further parameter, after its comma
-abbrev pub next_parameter_spelled : List ℕ → List TokenKind → List TokenKind
-next_parameter_spelled name rest = token.Punctuation punctuation.Comma ∷ parameter_spelled name rest
-
--- parameters with commas between them
-abbrev pub listed_parameters_spelled : List (List ℕ) → List TokenKind → List TokenKind
-listed_parameters_spelled [] rest = rest
-listed_parameters_spelled (first ∷ others) rest =
-    parameter_spelled first (each_spelled next_parameter_spelled others rest)
-
--- `(int n, int m)`, or nothing
-abbrev pub parameters_spelled : Option (List (List ℕ)) → List TokenKind → List TokenKind
-parameters_spelled None rest = rest
-parameters_spelled (Some parameters) rest =
-    token.Punctuation punctuation.OpenParen
-    ∷ listed_parameters_spelled parameters (token.Punctuation punctuation.CloseParen ∷ rest)
 
 -- a named stream
 abbrev pub stream_spelled : List ℕ → Option (List (List ℕ)) → tree.Stream → List TokenKind
@@ -436,22 +465,28 @@ rank _ = 0
 -- A prefix operator takes an operand; a binary one takes no side of lower precedence, and on its
 -- right none of equal precedence; the condition of `c ? a : b` is no such expression itself, and
 -- its other two parts are any.
-abbrev pub IsExpr : tree.Expr → Type 0
-IsExpr (tree.Number value) = Unit {0}
-IsExpr (tree.Truth value) = Unit {0}
-IsExpr (tree.Read name) = Unit {0}
-IsExpr (tree.Element name index) = IsExpr index
-IsExpr tree.Pop = Unit {0}
-IsExpr (tree.Peek index) = IsExpr index
-IsExpr (tree.Group inner) = IsExpr inner
-IsExpr (tree.Unary operator operand) = (rank operand ≡ 0) × IsExpr operand
-IsExpr (tree.Step operator name) = Unit {0}
-IsExpr (tree.StepElement operator name index) = IsExpr index
-IsExpr (tree.Binary operator left right) =
-    (rank left ≤ precedence operator) × (rank right < precedence operator) × IsExpr left
-    × IsExpr right
-IsExpr (tree.Conditional condition chosen other) =
-    (rank condition < lowest_precedence) × IsExpr condition × IsExpr chosen × IsExpr other
+abbrev mutual
+  pub IsExpr : tree.Expr → Type 0
+  IsExpr (tree.Number value) = Unit {0}
+  IsExpr (tree.Truth value) = Unit {0}
+  IsExpr (tree.Read name) = Unit {0}
+  IsExpr (tree.Element name index) = IsExpr index
+  IsExpr tree.Pop = Unit {0}
+  IsExpr (tree.Peek index) = IsExpr index
+  IsExpr (tree.Call name arguments) = AreGiven arguments
+  IsExpr (tree.Group inner) = IsExpr inner
+  IsExpr (tree.Unary operator operand) = (rank operand ≡ 0) × IsExpr operand
+  IsExpr (tree.Step operator name) = Unit {0}
+  IsExpr (tree.StepElement operator name index) = IsExpr index
+  IsExpr (tree.Binary operator left right) =
+      (rank left ≤ precedence operator) × (rank right < precedence operator) × IsExpr left
+      × IsExpr right
+  IsExpr (tree.Conditional condition chosen other) =
+      (rank condition < lowest_precedence) × IsExpr condition × IsExpr chosen × IsExpr other
+
+  pub AreGiven : tree.Arguments → Type 0
+  AreGiven tree.NoArgument = Unit {0}
+  AreGiven (tree.Argument first others) = IsExpr first × AreGiven others
 
 abbrev pub IsOptional : Option tree.Expr → Type 0
 IsOptional None = Unit {0}
@@ -523,6 +558,7 @@ abbrev mutual
   IsStmt (tree.Push value) = IsExpr value
   IsStmt (tree.Print value) = IsExpr value
   IsStmt (tree.Println value) = IsExpr value
+  IsStmt (tree.Return value) = IsOptional value
   IsStmt (tree.Compose statement) = IsComposition statement
 
   pub AreStmts : tree.Stmts → Type 0
@@ -548,6 +584,7 @@ abbrev mutual
   IsMember (tree.Init block) = AreStmts block
   IsMember (tree.Prework rates block) = AreRates rates × AreStmts block
   IsMember (tree.Work rates block) = AreRates rates × AreStmts block
+  IsMember (tree.Helper kind name parameters block) = AreStmts block
 
   pub AreMembers : tree.Members → Type 0
   AreMembers tree.NoMember = Unit {0}
@@ -568,20 +605,27 @@ IsTree program = AllByRecursion IsDeclaration program
 
 -- A leaf has height 1, any other node one more than its highest part. An element is a node above
 -- its index.
-abbrev pub expr_height : tree.Expr → ℕ
-expr_height (tree.Number value) = 1
-expr_height (tree.Truth value) = 1
-expr_height (tree.Read name) = 1
-expr_height (tree.Element name index) = expr_height index + 1
-expr_height tree.Pop = 1
-expr_height (tree.Peek index) = expr_height index + 1
-expr_height (tree.Group inner) = expr_height inner + 1
-expr_height (tree.Unary operator operand) = expr_height operand + 1
-expr_height (tree.Step operator name) = 2
-expr_height (tree.StepElement operator name index) = expr_height index + 2
-expr_height (tree.Binary operator left right) = max (expr_height left) (expr_height right) + 1
-expr_height (tree.Conditional condition chosen other) =
-    max (expr_height condition) (max (expr_height chosen) (expr_height other)) + 1
+abbrev mutual
+  pub expr_height : tree.Expr → ℕ
+  expr_height (tree.Number value) = 1
+  expr_height (tree.Truth value) = 1
+  expr_height (tree.Read name) = 1
+  expr_height (tree.Element name index) = expr_height index + 1
+  expr_height tree.Pop = 1
+  expr_height (tree.Peek index) = expr_height index + 1
+  expr_height (tree.Call name arguments) = given_height arguments + 1
+  expr_height (tree.Group inner) = expr_height inner + 1
+  expr_height (tree.Unary operator operand) = expr_height operand + 1
+  expr_height (tree.Step operator name) = 2
+  expr_height (tree.StepElement operator name index) = expr_height index + 2
+  expr_height (tree.Binary operator left right) = max (expr_height left) (expr_height right) + 1
+  expr_height (tree.Conditional condition chosen other) =
+      max (expr_height condition) (max (expr_height chosen) (expr_height other)) + 1
+
+  -- that of the highest argument, or 0
+  pub given_height : tree.Arguments → ℕ
+  given_height tree.NoArgument = 0
+  given_height (tree.Argument first others) = max (expr_height first) (given_height others)
 
 -- the greatest of these heights, or 0
 abbrev pub highest : {A : Type 0} → (A → ℕ) → List A → ℕ
@@ -636,6 +680,7 @@ abbrev mutual
   stmt_height (tree.Push value) = expr_height value + 1
   stmt_height (tree.Print value) = expr_height value + 1
   stmt_height (tree.Println value) = expr_height value + 1
+  stmt_height (tree.Return value) = optional_height value + 1
   stmt_height (tree.Compose statement) = composition_height statement + 1
 
   -- the highest statement's, or 0
@@ -665,6 +710,7 @@ abbrev mutual
   member_height (tree.Init block) = row_height block
   member_height (tree.Prework rates block) = max (highest rate_height rates) (row_height block)
   member_height (tree.Work rates block) = max (highest rate_height rates) (row_height block)
+  member_height (tree.Helper kind name parameters block) = row_height block
 
   pub members_height : tree.Members → ℕ
   members_height tree.NoMember = 0

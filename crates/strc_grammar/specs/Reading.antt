@@ -32,7 +32,7 @@ use Rattle.strc_grammar.specs.declared.error.Fault.TheVariants.{Unexpected, Nest
 use Rattle.strc_grammar.specs.declared.error.ReadError.{ReadError}
 use Rattle.strc_grammar.specs.declared.error.ReadError.TheVariants as errors
 use Rattle.strc_syntax.specs.Tree as tree
-use Rattle.strc_syntax.specs.Tree.{read_of, step_of_place}
+use Rattle.strc_syntax.specs.Tree.{read_of, step_of_place, arguments_of}
 use Rattle.strc_grammar.specs.Grammar.{precedence, lowest_precedence}
 
 infixl 10 ◌>>=◌
@@ -220,9 +220,52 @@ after_place depth name at height tokens =
     after_place_by depth name at height tokens (step_after tokens)
 
 -- the same after the name
-unfoldable pub after_name : ℕ → Below → List ℕ → List TokenKind → Tall tree.Expr
-after_name depth below name tokens = index depth below tokens >>= λ at.
+unfoldable pub after_variable : ℕ → Below → List ℕ → List TokenKind → Tall tree.Expr
+after_variable depth below name tokens = index depth below tokens >>= λ at.
     after_place depth name at.0 at.1 at.2
+
+-- lists stop where there is no comma
+unfoldable pub no_comma : List TokenKind → Option (List TokenKind)
+no_comma tokens = if is_punctuation punctuation.Comma tokens then None else Some tokens
+
+-- a further argument: at its comma
+unfoldable pub next_argument : Below → List TokenKind → Tall tree.Expr
+next_argument below tokens = below lowest_precedence (tail tokens)
+
+-- the arguments after these
+unfoldable pub more_arguments : Below → List tree.Expr × ℕ → List TokenKind
+    → Read (List tree.Expr × ℕ)
+more_arguments below so_far tokens = repeated no_comma (one_taller (next_argument below))
+    (length tokens + 1) so_far tokens
+
+-- expressions with commas between them, or none before the bracket that closes them, and the height
+-- of the highest or 0
+unfoldable pub listed_arguments : Below → List TokenKind → Read (List tree.Expr × ℕ)
+listed_arguments below tokens =
+    if is_punctuation punctuation.CloseParen tokens
+    then Ok (([], 0), tokens)
+    else (below lowest_precedence tokens >>= λ read. more_arguments below
+    (read.0 ∷ [], read.1) read.2)
+
+-- the same with the bracket: `1, 2)`
+unfoldable pub closed_arguments : Below → List TokenKind → Tall (List tree.Expr)
+closed_arguments below tokens = do
+  listed ← listed_arguments below tokens
+  rest ← expect punctuation.CloseParen listed.1
+  Ok (listed.0.0, listed.0.1, rest)
+
+-- `f(1, 2)`: after the bracket that opens
+unfoldable pub call : ℕ → Below → List ℕ → List TokenKind → Tall tree.Expr
+call depth below name tokens = do
+  given ← closed_arguments below tokens
+  height ← raised depth given.1
+  Ok (tree.Call name (arguments_of given.0), height, given.2)
+
+-- a call, or a variable or an element with its step: after the name
+unfoldable pub after_name : ℕ → Below → List ℕ → List TokenKind → Tall tree.Expr
+after_name depth below name tokens =
+    if is_punctuation punctuation.OpenParen tokens then call depth below name (tail tokens)
+    else after_variable depth below name tokens
 
 -- `++x` or `++x[i]`: after the punctuation
 unfoldable pub step_first : ℕ → Below → StepOperator → List TokenKind → Tall tree.Expr
@@ -363,10 +406,6 @@ variable depth tokens = do
   named ← name tokens
   begun ← initial depth named.1
   Ok (record { name = named.0; initial = begun.0 }, begun.1, begun.2)
-
--- variables stop where there is no comma
-unfoldable pub no_comma : List TokenKind → Option (List TokenKind)
-no_comma tokens = if is_punctuation punctuation.Comma tokens then None else Some tokens
 
 -- a further variable: at its comma
 unfoldable pub next_variable : ℕ → List TokenKind → Tall tree.Variable
@@ -510,13 +549,20 @@ argument depth tokens = do
   height ← raised depth value.1
   Ok (value.0, height, rest)
 
--- the condition of a `for`, if there is one, and its semicolon
-unfoldable pub condition : ℕ → List TokenKind → Tall (Option tree.Expr)
-condition depth tokens =
+-- an expression, if there is one, and its semicolon
+unfoldable pub optional_value : ℕ → List TokenKind → Tall (Option tree.Expr)
+optional_value depth tokens =
     if is_punctuation punctuation.Semicolon tokens
     then Ok (None, 0, tail tokens)
     else (closed (expression depth) punctuation.Semicolon tokens >>= λ value. Ok
     (Some value.0, value.1, value.2))
+
+-- `return`: after the keyword
+unfoldable pub return_value : ℕ → List TokenKind → Tall tree.Stmt
+return_value depth tokens = do
+  value ← optional_value (depth - 1) tokens
+  height ← raised depth value.1
+  Ok (tree.Return value.0, height, value.2)
 
 -- the step of a `for`, and the bracket after it
 unfoldable pub last_part : ℕ → List TokenKind → Tall tree.Stmt
@@ -528,7 +574,7 @@ last_part depth tokens = do
 -- `condition; step)`, and the height of the higher
 unfoldable pub after_first : ℕ → List TokenKind → Tall (Option tree.Expr × tree.Stmt)
 after_first depth tokens = do
-  tested ← condition depth tokens
+  tested ← optional_value depth tokens
   stepped ← last_part depth tested.2
   Ok ((tested.0, stepped.0), max tested.1 stepped.1, stepped.2)
 
@@ -542,30 +588,12 @@ for_heading depth tokens = do
 
 -- ---- arguments and parameters
 
--- a further argument: at its comma
-unfoldable pub next_argument : ℕ → List TokenKind → Tall tree.Expr
-next_argument depth tokens = expression depth lowest_precedence (tail tokens)
-
--- the arguments after these
-unfoldable pub more_arguments : ℕ → List tree.Expr × ℕ → List TokenKind → Read (List tree.Expr × ℕ)
-more_arguments depth so_far tokens = repeated no_comma (one_taller (next_argument depth))
-    (length tokens + 1) so_far tokens
-
--- expressions with commas between them, or none before the bracket that closes them, and the height
--- of the highest or 0
-unfoldable pub listed_arguments : ℕ → List TokenKind → Read (List tree.Expr × ℕ)
-listed_arguments depth tokens =
-    if is_punctuation punctuation.CloseParen tokens
-    then Ok (([], 0), tokens)
-    else (expression depth lowest_precedence tokens >>= λ read. more_arguments depth
-    (read.0 ∷ [], read.1) read.2)
-
 -- `(1, 2)`, if it is there
 unfoldable pub arguments : ℕ → List TokenKind → Tall (Option (List tree.Expr))
 arguments depth tokens =
     if is_punctuation punctuation.OpenParen tokens
-    then (listed_arguments depth (tail tokens) >>= λ read.
-    expect punctuation.CloseParen read.1 >>= λ rest. Ok (Some read.0.0, read.0.1, rest))
+    then (closed_arguments (expression depth) (tail tokens) >>= λ read. Ok
+    (Some read.0, read.1, read.2))
     else Ok (None, 0, tokens)
 
 -- `()`, if it is there
@@ -594,12 +622,18 @@ listed_parameters tokens =
     if is_punctuation punctuation.CloseParen tokens then Ok ([], tokens) else
     (parameter tokens >>= λ read. more_parameters (read.0 ∷ []) read.1)
 
+-- `(int n, int m)`: after the bracket that opens
+unfoldable pub closed_parameters : List TokenKind → Read (List (List ℕ))
+closed_parameters tokens = do
+  listed ← listed_parameters tokens
+  rest ← expect punctuation.CloseParen listed.1
+  Ok (listed.0, rest)
+
 -- `(int n, int m)`, if it is there
 unfoldable pub parameters : List TokenKind → Read (Option (List (List ℕ)))
 parameters tokens =
     if is_punctuation punctuation.OpenParen tokens
-    then (listed_parameters (tail tokens) >>= λ read.
-    expect punctuation.CloseParen read.1 >>= λ rest. Ok (Some read.0, rest))
+    then (closed_parameters (tail tokens) >>= λ read. Ok (Some read.0, read.1))
     else Ok (None, tokens)
 
 -- ---- types of streams

@@ -7,7 +7,8 @@ use Rattle.strc_lex.specs.declared.token.Token.{Token}
 use Rattle.strc_lex.specs.declared.token.TokenKind.{TokenKind}
 use Rattle.strc_syntax.specs.declared.tree.Variables.{Variables}
 use Rattle.strc_syntax.specs.Tree as tree
-use Rattle.strc_syntax.specs.View.{type_view, variable_view}
+use Rattle.strc_syntax.specs.declared.tree.Expr.{Expr}
+use Rattle.strc_syntax.specs.View.{expr_view, type_view, variable_view}
 use Rattle.strc_grammar.specs.Grammar.{kinds}
 use Rattle.strc_grammar.specs.declared.parsed.Parsed.{Parsed}
 
@@ -22,6 +23,10 @@ parsed view x = (view x.value, x.height, kinds x.rest.now)
 -- several trees, the height of the highest and the tokens after them
 abbrev pub parsed_all : {A B : Type 0} → (A → B) → Parsed (Vec A) → (List B × ℕ) × List TokenKind
 parsed_all view x = ((map view x.value.items, x.height), kinds x.rest.now)
+
+-- arguments in a list
+abbrev pub listed_view : Vec Expr → List tree.Expr
+listed_view arguments = map expr_view arguments.items
 
 -- a type and the variables of it
 abbrev pub declared_view : Variables → tree.VariableType × List tree.Variable

@@ -1,7 +1,7 @@
 -- Reading statements and streams from the front of a token list, rule by rule, as the code does. It
 -- serves the proofs: no public clause cites it.
-use Rattle.std.specs.Prelude.{ℕ, zero, suc, ◌+◌, ◌-◌, max, Bool, if◌then◌else◌, List, [], ◌∷◌, ◌++◌}
-use Rattle.std.specs.Prelude.{length, Option, Some, None, Result, Ok, Err}
+use Rattle.std.specs.Prelude.{ℕ, zero, suc, ◌+◌, ◌-◌, max, Bool, false, if◌then◌else◌, List, []}
+use Rattle.std.specs.Prelude.{◌∷◌, ◌++◌, length, Option, Some, None, Result, Ok, Err}
 use Rattle.std.specs.List.{list_any}
 use denote.Enum.Bare.{sameb}
 use Rattle.strc_lex.specs.declared.token.TokenKind.{TokenKind}
@@ -16,12 +16,15 @@ use Rattle.strc_syntax.specs.declared.tree.Role.TheVariants as role
 use Rattle.strc_syntax.specs.declared.tree.RateKind.{RateKind}
 use Rattle.strc_syntax.specs.declared.tree.RateKind.TheVariants as rate
 use Rattle.strc_syntax.specs.contracts.tree.RateKind.{the_type as rate_type}
+use Rattle.strc_syntax.specs.declared.tree.HelperType.{HelperType}
+use Rattle.strc_syntax.specs.declared.tree.HelperType.TheVariants as helper
 use Rattle.strc_grammar.specs.declared.error.Fault.{Fault}
 use Rattle.strc_grammar.specs.declared.error.Fault.TheVariants.{Nesting}
 use Rattle.strc_syntax.specs.Tree as tree
 use Rattle.strc_syntax.specs.Tree.{row, chain}
 use Rattle.strc_grammar.specs.Grammar.{lowest_precedence}
 use Rattle.strc_grammar.specs.Reading.{◌>>=◌, Read, Tall, first, tail, unexpected, is_keyword}
+use Rattle.strc_grammar.specs.Reading.{is_punctuation, closed_parameters, return_value}
 use Rattle.strc_grammar.specs.Reading.{expect, expect_keyword, name, raised, repeated, one_more}
 use Rattle.strc_grammar.specs.Reading.{one_taller, brace, expression, declared, closed, ended}
 use Rattle.strc_grammar.specs.Reading.{bracketed, argument, for_heading, arguments, empty_brackets}
@@ -141,6 +144,23 @@ braced inner tokens = do
 unfoldable pub init : Inner → List TokenKind → Tall tree.Member
 init inner tokens = braced inner tokens >>= λ block. Ok (tree.Init block.0, block.1, block.2)
 
+-- whether the heading of a helper function comes: a name and the bracket of its parameters
+abbrev pub is_heading_by : List TokenKind → Option TokenKind → Bool
+is_heading_by tokens (Some (token.Name name)) = is_punctuation punctuation.OpenParen (tail tokens)
+is_heading_by tokens _ = false
+
+unfoldable pub is_heading : List TokenKind → Bool
+is_heading tokens = is_heading_by tokens (first tokens)
+
+-- a helper function: after its type
+unfoldable pub helper_function : Inner → HelperType → List TokenKind → Tall tree.Member
+helper_function inner kind tokens = do
+  named ← name tokens
+  opened ← expect punctuation.OpenParen named.1
+  given ← closed_parameters opened
+  block ← braced inner given.1
+  Ok (tree.Helper kind named.0 given.0 block.0, block.1, block.2)
+
 -- rates and a block
 unfoldable pub phase : ℕ → Inner → List TokenKind → Tall (List tree.Rate × tree.Stmts)
 phase limit inner tokens = do
@@ -155,9 +175,19 @@ fields limit tokens = do
   rest ← expect punctuation.Semicolon read.2
   Ok (tree.Fields read.0.0 read.0.1, read.1, rest)
 
+-- fields or a helper function, with the type that the keyword at the front is for the latter
+unfoldable pub typed_member : ℕ → Inner → HelperType → List TokenKind → Tall tree.Member
+typed_member limit inner kind tokens =
+    if is_heading (tail tokens) then helper_function inner kind (tail tokens)
+    else fields limit tokens
+
 abbrev pub member_by : ℕ → Inner → List TokenKind → Option TokenKind → Tall tree.Member
-member_by limit inner tokens (Some (token.Keyword keyword.Boolean)) = fields limit tokens
-member_by limit inner tokens (Some (token.Keyword keyword.Int)) = fields limit tokens
+member_by limit inner tokens (Some (token.Keyword keyword.Boolean)) =
+    typed_member limit inner helper.Boolean tokens
+member_by limit inner tokens (Some (token.Keyword keyword.Int)) =
+    typed_member limit inner helper.Int tokens
+member_by limit inner tokens (Some (token.Keyword keyword.Void)) =
+    helper_function inner helper.Void (tail tokens)
 member_by limit inner tokens (Some (token.Keyword keyword.Init)) = init inner (tail tokens)
 member_by limit inner tokens (Some (token.Keyword keyword.Prework)) =
     phase limit inner (tail tokens) >>= λ read. Ok (tree.Prework read.0.0 read.0.1, read.1, read.2)
@@ -316,6 +346,7 @@ keyword_statement_by depth inner keyword.Print tokens =
     argument depth (tail tokens) >>= λ read. Ok (tree.Print read.0, read.1, read.2)
 keyword_statement_by depth inner keyword.Println tokens =
     argument depth (tail tokens) >>= λ read. Ok (tree.Println read.0, read.1, read.2)
+keyword_statement_by depth inner keyword.Return tokens = return_value depth (tail tokens)
 keyword_statement_by depth inner keyword.Add tokens = compose depth inner keyword.Add tokens
 keyword_statement_by depth inner keyword.Body tokens = compose depth inner keyword.Body tokens
 keyword_statement_by depth inner keyword.Loop tokens = compose depth inner keyword.Loop tokens

@@ -8,6 +8,7 @@ ghost use Rattle.strc_grammar.specs.Grammar.{kinds};
 ghost use Rattle.strc_grammar.specs.Seen.{seen};
 ghost use Rattle.strc_grammar.specs.Reading as spec;
 ghost use Rattle.strc_grammar.specs.Reading.{Gives};
+ghost use Rattle.strc_grammar.specs.Streams.{is_heading};
 
 use crate::{Fault, ReadError};
 use strc_base::name::{Name, StringLiteral};
@@ -69,6 +70,17 @@ pub fn is_keyword(wanted: Keyword, tokens: &[Token]) -> bool
 {
     match peek(tokens) {
         Some(TokenKind::Keyword(found)) => *found == wanted,
+        _ => false,
+    }
+}
+
+/// Whether the heading of a helper function comes first: a name and the bracket of its parameters.
+#[tactic(auto, unfolding(crate::specs::Streams::is_heading))]
+pub fn is_heading(tokens: &[Token]) -> bool
+    ensures { result ≡ is_heading (kinds tokens.now) }
+{
+    match peek(tokens) {
+        Some(TokenKind::Name(_)) => is_punctuation(Punctuation::OpenParen, tail(tokens)),
         _ => false,
     }
 }

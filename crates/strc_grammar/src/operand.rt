@@ -10,6 +10,7 @@ ghost use Rattle.strc_grammar.specs.Reading.{Gives};
 ghost use Rattle.strc_grammar.specs.Readers.{ReadsExpressions};
 
 use crate::ReadError;
+use crate::argument::closed_arguments;
 use crate::expression::ExpressionRules;
 use crate::lookahead::{expect, is_punctuation, name, peek, tail, unexpected};
 use crate::operator::step_after;
@@ -18,7 +19,7 @@ use crate::part::raise;
 use std::alloc::Global;
 use strc_base::name::Name;
 use strc_lex::token::{Keyword, Punctuation, Token, TokenKind};
-use strc_syntax::node::{group_of, peek_of, read_of, step_of, unary_of};
+use strc_syntax::node::{call_of, group_of, peek_of, read_of, step_of, unary_of};
 use strc_syntax::tree::{Expr, StepOperator, UnaryOperator};
 
 /// `x` or `x++`, `x[i]` or `x[i]++`: after the name and its index.
@@ -149,13 +150,17 @@ impl<F: Fn(Global, usize, usize, &[Token]) -> Result<Parsed<'_, Expr>, ReadError
     }
 
     /// A variable or an element, and the step after it: after the name.
-    #[tactic(auto, unfolding(crate::specs::Reading::after_name))]
-    fn after_name<'t>(&self, name: Name, tokens: &'t [Token]) -> Result<Parsed<'t, Expr>, ReadError>
+    #[tactic(auto, unfolding(crate::specs::Reading::after_variable))]
+    fn after_variable<'t>(
+        &self,
+        name: Name,
+        tokens: &'t [Token],
+    ) -> Result<Parsed<'t, Expr>, ReadError>
         requires deep { 0 < self.now.depth }
         requires reads { ReadsExpressions (self.now.depth - 1)
             (F.pre self.now.reader) (F.post self.now.reader) }
         ensures { Gives (parsed expr_view) result
-            (spec.after_name self.now.depth (spec.expression (self.now.depth - 1)) name
+            (spec.after_variable self.now.depth (spec.expression (self.now.depth - 1)) name
             (kinds tokens.now)) }
     {
         let index = self.index(tokens)?;
@@ -167,6 +172,38 @@ impl<F: Fn(Global, usize, usize, &[Token]) -> Result<Parsed<'_, Expr>, ReadError
             index.height,
             index.rest,
         )
+    }
+
+    /// `f(1, 2)`: after the bracket that opens. The arguments are one depth below.
+    #[tactic(auto, unfolding(crate::specs::Reading::call))]
+    fn call<'t>(&self, name: Name, tokens: &'t [Token]) -> Result<Parsed<'t, Expr>, ReadError>
+        requires deep { 0 < self.now.depth }
+        requires reads { ReadsExpressions (self.now.depth - 1)
+            (F.pre self.now.reader) (F.post self.now.reader) }
+        ensures { Gives (parsed expr_view) result
+            (spec.call self.now.depth (spec.expression (self.now.depth - 1)) name
+            (kinds tokens.now)) }
+    {
+        let given = closed_arguments(self.alloc, self.depth - 1, &self.reader, tokens)?;
+        let given = given.raise(self.depth)?;
+        Ok(Parsed::new(call_of(name, given.value), given.height, given.rest))
+    }
+
+    /// A call, or a variable or an element and the step after it: after the name.
+    #[tactic(auto, unfolding(crate::specs::Reading::after_name))]
+    fn after_name<'t>(&self, name: Name, tokens: &'t [Token]) -> Result<Parsed<'t, Expr>, ReadError>
+        requires deep { 0 < self.now.depth }
+        requires reads { ReadsExpressions (self.now.depth - 1)
+            (F.pre self.now.reader) (F.post self.now.reader) }
+        ensures { Gives (parsed expr_view) result
+            (spec.after_name self.now.depth (spec.expression (self.now.depth - 1)) name
+            (kinds tokens.now)) }
+    {
+        if is_punctuation(Punctuation::OpenParen, tokens) {
+            self.call(name, tail(tokens))
+        } else {
+            self.after_variable(name, tokens)
+        }
     }
 
     /// `++x` or `++x[i]`: after the punctuation.

@@ -51,6 +51,18 @@ fn listed_parameters(alloc: Global, tokens: &[Token]) -> Result<(Vec<Name>, &[To
     more_parameters(found, rest)
 }
 
+/// `(int n, int m)`: after the bracket that opens.
+#[tactic(auto, unfolding(crate::specs::Reading::closed_parameters))]
+pub fn closed_parameters(
+    alloc: Global,
+    tokens: &[Token],
+) -> Result<(Vec<Name>, &[Token]), ReadError>
+    ensures { Gives seen_names result (spec.closed_parameters (kinds tokens.now)) }
+{
+    let (listed, rest) = listed_parameters(alloc, tokens)?;
+    before(Punctuation::CloseParen, listed, rest)
+}
+
 /// `(int n, int m)`, if it comes next.
 #[tactic(auto, unfolding(crate::specs::Reading::parameters))]
 pub fn parameters(
@@ -62,7 +74,6 @@ pub fn parameters(
     if !is_punctuation(Punctuation::OpenParen, tokens) {
         return Ok((None, tokens));
     }
-    let (listed, rest) = listed_parameters(alloc, tail(tokens))?;
-    let (listed, rest) = before(Punctuation::CloseParen, listed, rest)?;
+    let (listed, rest) = closed_parameters(alloc, tail(tokens))?;
     Ok((Some(listed), rest))
 }

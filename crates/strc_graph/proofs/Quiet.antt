@@ -148,6 +148,7 @@ value_quiet port (tree.Peek index) store words h =
     (value_quiet port index store words h)
     (λ place k. any_given (looked_at (item_ahead port place.1.traffic.popped place.0))
     (λ item. (item, place.1)) words (λ item. k))
+value_quiet port (tree.Call name arguments) store words h = tt
 value_quiet port (tree.Group inner) store words h = value_quiet port inner store words h
 value_quiet port (tree.Unary operator operand) store words h =
     then_ok (value_of port operand store) _ (λ given. given.1.traffic.words ≡ words)
@@ -300,6 +301,7 @@ mutual
   stmt_quiet : (port : Port) (s : tree.Stmt) (store : Store) (words : List Word)
       → stmt_prints s ≡ false → store.traffic.words ≡ words → IsQuiet words (stmt_done port s store)
   stmt_quiet port tree.Empty store words none h = h
+  stmt_quiet port (tree.Return value) store words none h = h
   stmt_quiet port (tree.Block body) store words none h =
       inside_quiet (stmts_done port body) store words (stmts_quiet port body store words none h)
   stmt_quiet port (tree.Declare kind variables) store words none h =

@@ -19,6 +19,7 @@ no_block (tree.Fields kind variables ∷ rest) none = no_block rest none
 no_block (tree.Init block ∷ rest) none = no_block rest none
 no_block (tree.Prework rates block ∷ rest) none = absurd (cc)
 no_block (tree.Work rates block ∷ rest) none = no_block rest none
+no_block (tree.Helper kind name parameters block ∷ rest) none = no_block rest none
 
 pub no_rates : (members : List tree.Member) → is_some (prework_block members) ≡ false
     → prework_rates members ≡ None
@@ -27,6 +28,7 @@ no_rates (tree.Fields kind variables ∷ rest) none = no_rates rest none
 no_rates (tree.Init block ∷ rest) none = no_rates rest none
 no_rates (tree.Prework rates block ∷ rest) none = absurd (cc)
 no_rates (tree.Work rates block ∷ rest) none = no_rates rest none
+no_rates (tree.Helper kind name parameters block ∷ rest) none = no_rates rest none
 
 work_rates_alone : (fires : Body) (members : List tree.Member)
     → is_some (prework_block members) ≡ false → body_rates fires members ≡ work_rates members

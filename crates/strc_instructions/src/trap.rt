@@ -10,6 +10,7 @@ pub enum Trap {
     Index,
     PeekRange,
     Turns,
+    Calls,
     NoMemory,
 }
 
@@ -26,6 +27,7 @@ impl Trap {
             Trap::Index => Halt::Fault(Cause::Index),
             Trap::PeekRange => Halt::Fault(Cause::PeekRange),
             Trap::Turns => Halt::Fault(Cause::Turns),
+            Trap::Calls => Halt::Fault(Cause::Calls),
             Trap::NoMemory => Halt::NoMemory,
         }
     }

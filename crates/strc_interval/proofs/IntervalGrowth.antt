@@ -48,6 +48,7 @@ base_of_after base names (tree.For first condition step body) h = h
 base_of_after base names (tree.Push value) h = h
 base_of_after base names (tree.Print value) h = h
 base_of_after base names (tree.Println value) h = h
+base_of_after base names (tree.Return value) h = h
 
 -- without the inner ones the names are as before
 pub drop_inner : (base names : Intervals) → IsBaseOf base names
@@ -96,6 +97,7 @@ names_after names (tree.For first condition step body) = refl
 names_after names (tree.Push value) = refl
 names_after names (tree.Print value) = refl
 names_after names (tree.Println value) = refl
+names_after names (tree.Return value) = refl
 
 -- the interval of a variable, by its value in scope
 pub interval_named-some : (names : Intervals) (name : List ℕ) (interval : Option Interval)

@@ -7,11 +7,12 @@ use Rattle.strc_base.specs.Names.{has_name}
 use Rattle.strc_syntax.specs.Tree as tree
 use Rattle.strc_semantics.specs.Filters.{field_names, declared_names}
 use Rattle.strc_interval.specs.Loops.{Locals, with_locals, locals_after, declares, shadows}
-use Rattle.strc_interval.specs.Loops.{expr_writes, option_writes, variables_write, stmt_writes}
-use Rattle.strc_interval.specs.Loops.{stmts_write}
+use Rattle.strc_interval.specs.Loops.{expr_writes, exprs_write, option_writes, variables_write}
+use Rattle.strc_interval.specs.Loops.{stmt_writes, stmts_write}
 use Rattle.strc_interval.specs.Stateless.{write_one_of}
-use Rattle.strc_interval.specs.Walk.{with_fields, is_field, expr_writes_field, option_writes_field}
-use Rattle.strc_interval.specs.Walk.{variables_write_field, stmt_writes_field, stmts_write_field}
+use Rattle.strc_interval.specs.Walk.{with_fields, is_field, expr_writes_field, exprs_write_field}
+use Rattle.strc_interval.specs.Walk.{option_writes_field, variables_write_field}
+use Rattle.strc_interval.specs.Walk.{stmt_writes_field, stmts_write_field}
 
 -- ---- truth values
 
@@ -127,6 +128,7 @@ some_after fields locals (tree.For first condition step body) test = refl
 some_after fields locals (tree.Push value) test = refl
 some_after fields locals (tree.Print value) test = refl
 some_after fields locals (tree.Println value) test = refl
+some_after fields locals (tree.Return value) test = refl
 
 -- the field of a name
 bytes_turned : (a b : List ℕ) → bytes_eq a b ≡ bytes_eq b a
@@ -165,29 +167,38 @@ some_named (name ∷ rest) locals sought =
 
 -- ---- the walk
 
-expr_walk : (fields : List (List ℕ)) (locals : Locals) (e : tree.Expr)
-    → expr_writes_field fields locals e ≡ some_field fields locals (λ name. expr_writes name e)
-expr_walk fields locals (tree.Number value) = some_none fields locals
-expr_walk fields locals (tree.Truth value) = some_none fields locals
-expr_walk fields locals (tree.Read read) = some_none fields locals
-expr_walk fields locals (tree.Element array index) = expr_walk fields locals index
-expr_walk fields locals tree.Pop = some_none fields locals
-expr_walk fields locals (tree.Peek index) = expr_walk fields locals index
-expr_walk fields locals (tree.Group inner) = expr_walk fields locals inner
-expr_walk fields locals (tree.Unary operator operand) = expr_walk fields locals operand
-expr_walk fields locals (tree.Step operator stepped) = some_named fields locals stepped
-expr_walk fields locals (tree.StepElement operator array index) =
-    both fields locals (bytes_eq array) (λ name. expr_writes name index) _ _
-    (some_named fields locals array) (expr_walk fields locals index)
-expr_walk fields locals (tree.Binary operator left right) =
-    both fields locals (λ name. expr_writes name left) (λ name. expr_writes name right) _ _
-    (expr_walk fields locals left) (expr_walk fields locals right)
-expr_walk fields locals (tree.Conditional condition chosen other) =
-    both fields locals (λ name. expr_writes name condition)
-    (λ name. expr_writes name chosen || expr_writes name other) _ _
-    (expr_walk fields locals condition)
-    (both fields locals (λ name. expr_writes name chosen) (λ name. expr_writes name other) _ _
-    (expr_walk fields locals chosen) (expr_walk fields locals other))
+mutual
+  expr_walk : (fields : List (List ℕ)) (locals : Locals) (e : tree.Expr)
+      → expr_writes_field fields locals e ≡ some_field fields locals (λ name. expr_writes name e)
+  expr_walk fields locals (tree.Number value) = some_none fields locals
+  expr_walk fields locals (tree.Truth value) = some_none fields locals
+  expr_walk fields locals (tree.Read read) = some_none fields locals
+  expr_walk fields locals (tree.Element array index) = expr_walk fields locals index
+  expr_walk fields locals tree.Pop = some_none fields locals
+  expr_walk fields locals (tree.Peek index) = expr_walk fields locals index
+  expr_walk fields locals (tree.Call called arguments) = exprs_walk fields locals arguments
+  expr_walk fields locals (tree.Group inner) = expr_walk fields locals inner
+  expr_walk fields locals (tree.Unary operator operand) = expr_walk fields locals operand
+  expr_walk fields locals (tree.Step operator stepped) = some_named fields locals stepped
+  expr_walk fields locals (tree.StepElement operator array index) =
+      both fields locals (bytes_eq array) (λ name. expr_writes name index) _ _
+      (some_named fields locals array) (expr_walk fields locals index)
+  expr_walk fields locals (tree.Binary operator left right) =
+      both fields locals (λ name. expr_writes name left) (λ name. expr_writes name right) _ _
+      (expr_walk fields locals left) (expr_walk fields locals right)
+  expr_walk fields locals (tree.Conditional condition chosen other) =
+      both fields locals (λ name. expr_writes name condition)
+      (λ name. expr_writes name chosen || expr_writes name other) _ _
+      (expr_walk fields locals condition)
+      (both fields locals (λ name. expr_writes name chosen) (λ name. expr_writes name other) _ _
+      (expr_walk fields locals chosen) (expr_walk fields locals other))
+
+  exprs_walk : (fields : List (List ℕ)) (locals : Locals) (e : tree.Arguments)
+      → exprs_write_field fields locals e ≡ some_field fields locals (λ name. exprs_write name e)
+  exprs_walk fields locals tree.NoArgument = some_none fields locals
+  exprs_walk fields locals (tree.Argument first rest) =
+      both fields locals (λ name. expr_writes name first) (λ name. exprs_write name rest) _ _
+      (expr_walk fields locals first) (exprs_walk fields locals rest)
 
 option_walk : (fields : List (List ℕ)) (locals : Locals) (value : Option tree.Expr)
     → option_writes_field fields locals value
@@ -251,6 +262,7 @@ mutual
   stmt_walk fields locals (tree.Push value) = expr_walk fields locals value
   stmt_walk fields locals (tree.Print value) = expr_walk fields locals value
   stmt_walk fields locals (tree.Println value) = expr_walk fields locals value
+  stmt_walk fields locals (tree.Return value) = option_walk fields locals value
 
   stmts_walk : (fields : List (List ℕ)) (locals : Locals) (s : tree.Stmts)
       → stmts_write_field fields locals s ≡ some_field fields locals (λ name. stmts_write name s)
@@ -304,6 +316,8 @@ one_of_fields names (tree.Fields kind variables ∷ rest) block =
 one_of_fields names (tree.Init body ∷ rest) block = one_of_fields names rest block
 one_of_fields names (tree.Prework rates body ∷ rest) block = one_of_fields names rest block
 one_of_fields names (tree.Work rates body ∷ rest) block = one_of_fields names rest block
+one_of_fields names (tree.Helper kind name parameters body ∷ rest) block =
+    one_of_fields names rest block
 
 -- a walk that begins with the names of all fields
 pub walk_tells : (members : List tree.Member) (block : tree.Stmts)

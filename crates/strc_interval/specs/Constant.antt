@@ -14,6 +14,7 @@ is_constant (tree.Read name) = false
 is_constant (tree.Element name index) = false
 is_constant tree.Pop = false
 is_constant (tree.Peek index) = false
+is_constant (tree.Call name arguments) = false
 is_constant (tree.Group inner) = is_constant inner
 is_constant (tree.Unary operator operand) = is_constant operand
 is_constant (tree.Step operator name) = false

@@ -111,6 +111,7 @@ interval_of intervals (tree.Truth value) = None
 interval_of intervals (tree.Element name index) = None
 interval_of intervals tree.Pop = None
 interval_of intervals (tree.Peek index) = None
+interval_of intervals (tree.Call name arguments) = None
 interval_of intervals (tree.Step operator name) = None
 interval_of intervals (tree.StepElement operator name index) = None
 interval_of intervals (tree.Conditional condition chosen other) =

@@ -42,21 +42,28 @@ shadows name (tree.Declare kind variables) = declares name variables
 shadows name _ = false
 
 -- whether an expression writes the variable that this name has where it is
-abbrev pub expr_writes : List ℕ → tree.Expr → Bool
-expr_writes name (tree.Number value) = false
-expr_writes name (tree.Truth value) = false
-expr_writes name (tree.Read read) = false
-expr_writes name (tree.Element array index) = expr_writes name index
-expr_writes name tree.Pop = false
-expr_writes name (tree.Peek index) = expr_writes name index
-expr_writes name (tree.Group inner) = expr_writes name inner
-expr_writes name (tree.Unary operator operand) = expr_writes name operand
-expr_writes name (tree.Step operator stepped) = bytes_eq stepped name
-expr_writes name (tree.StepElement operator array index) =
-    bytes_eq array name || expr_writes name index
-expr_writes name (tree.Binary operator left right) = expr_writes name left || expr_writes name right
-expr_writes name (tree.Conditional condition chosen other) =
-    expr_writes name condition || (expr_writes name chosen || expr_writes name other)
+abbrev mutual
+  pub expr_writes : List ℕ → tree.Expr → Bool
+  expr_writes name (tree.Number value) = false
+  expr_writes name (tree.Truth value) = false
+  expr_writes name (tree.Read read) = false
+  expr_writes name (tree.Element array index) = expr_writes name index
+  expr_writes name tree.Pop = false
+  expr_writes name (tree.Peek index) = expr_writes name index
+  expr_writes name (tree.Call called arguments) = exprs_write name arguments
+  expr_writes name (tree.Group inner) = expr_writes name inner
+  expr_writes name (tree.Unary operator operand) = expr_writes name operand
+  expr_writes name (tree.Step operator stepped) = bytes_eq stepped name
+  expr_writes name (tree.StepElement operator array index) =
+      bytes_eq array name || expr_writes name index
+  expr_writes name (tree.Binary operator left right) =
+      expr_writes name left || expr_writes name right
+  expr_writes name (tree.Conditional condition chosen other) =
+      expr_writes name condition || (expr_writes name chosen || expr_writes name other)
+
+  pub exprs_write : List ℕ → tree.Arguments → Bool
+  exprs_write name tree.NoArgument = false
+  exprs_write name (tree.Argument first rest) = expr_writes name first || exprs_write name rest
 
 abbrev pub option_writes : List ℕ → Option tree.Expr → Bool
 option_writes name None = false
@@ -94,6 +101,7 @@ abbrev mutual
   stmt_writes name (tree.Push value) = expr_writes name value
   stmt_writes name (tree.Print value) = expr_writes name value
   stmt_writes name (tree.Println value) = expr_writes name value
+  stmt_writes name (tree.Return value) = option_writes name value
 
   pub stmts_write : List ℕ → tree.Stmts → Bool
   stmts_write name tree.Done = false

@@ -13,29 +13,38 @@ with_fields names (tree.Fields kind variables ∷ rest) =
 with_fields names (tree.Init block ∷ rest) = with_fields names rest
 with_fields names (tree.Prework rates block ∷ rest) = with_fields names rest
 with_fields names (tree.Work rates block ∷ rest) = with_fields names rest
+with_fields names (tree.Helper kind name parameters block ∷ rest) = with_fields names rest
 
 -- whether a name is that of a field here
 abbrev pub is_field : (fields : List (List ℕ)) → Locals → List ℕ → Bool
 is_field fields locals name = not (has_name locals name) && has_name fields name
 
-abbrev pub expr_writes_field : (fields : List (List ℕ)) → Locals → tree.Expr → Bool
-expr_writes_field fields locals (tree.Number value) = false
-expr_writes_field fields locals (tree.Truth value) = false
-expr_writes_field fields locals (tree.Read read) = false
-expr_writes_field fields locals (tree.Element array index) = expr_writes_field fields locals index
-expr_writes_field fields locals tree.Pop = false
-expr_writes_field fields locals (tree.Peek index) = expr_writes_field fields locals index
-expr_writes_field fields locals (tree.Group inner) = expr_writes_field fields locals inner
-expr_writes_field fields locals (tree.Unary operator operand) =
-    expr_writes_field fields locals operand
-expr_writes_field fields locals (tree.Step operator stepped) = is_field fields locals stepped
-expr_writes_field fields locals (tree.StepElement operator array index) =
-    is_field fields locals array || expr_writes_field fields locals index
-expr_writes_field fields locals (tree.Binary operator left right) =
-    expr_writes_field fields locals left || expr_writes_field fields locals right
-expr_writes_field fields locals (tree.Conditional condition chosen other) =
-    expr_writes_field fields locals condition
-    || (expr_writes_field fields locals chosen || expr_writes_field fields locals other)
+abbrev mutual
+  pub expr_writes_field : (fields : List (List ℕ)) → Locals → tree.Expr → Bool
+  expr_writes_field fields locals (tree.Number value) = false
+  expr_writes_field fields locals (tree.Truth value) = false
+  expr_writes_field fields locals (tree.Read read) = false
+  expr_writes_field fields locals (tree.Element array index) = expr_writes_field fields locals index
+  expr_writes_field fields locals tree.Pop = false
+  expr_writes_field fields locals (tree.Peek index) = expr_writes_field fields locals index
+  expr_writes_field fields locals (tree.Call called arguments) =
+      exprs_write_field fields locals arguments
+  expr_writes_field fields locals (tree.Group inner) = expr_writes_field fields locals inner
+  expr_writes_field fields locals (tree.Unary operator operand) =
+      expr_writes_field fields locals operand
+  expr_writes_field fields locals (tree.Step operator stepped) = is_field fields locals stepped
+  expr_writes_field fields locals (tree.StepElement operator array index) =
+      is_field fields locals array || expr_writes_field fields locals index
+  expr_writes_field fields locals (tree.Binary operator left right) =
+      expr_writes_field fields locals left || expr_writes_field fields locals right
+  expr_writes_field fields locals (tree.Conditional condition chosen other) =
+      expr_writes_field fields locals condition
+      || (expr_writes_field fields locals chosen || expr_writes_field fields locals other)
+
+  pub exprs_write_field : (fields : List (List ℕ)) → Locals → tree.Arguments → Bool
+  exprs_write_field fields locals tree.NoArgument = false
+  exprs_write_field fields locals (tree.Argument first rest) =
+      expr_writes_field fields locals first || exprs_write_field fields locals rest
 
 abbrev pub option_writes_field : (fields : List (List ℕ)) → Locals → Option tree.Expr → Bool
 option_writes_field fields locals None = false
@@ -76,6 +85,7 @@ abbrev mutual
   stmt_writes_field fields locals (tree.Push value) = expr_writes_field fields locals value
   stmt_writes_field fields locals (tree.Print value) = expr_writes_field fields locals value
   stmt_writes_field fields locals (tree.Println value) = expr_writes_field fields locals value
+  stmt_writes_field fields locals (tree.Return value) = option_writes_field fields locals value
 
   pub stmts_write_field : (fields : List (List ℕ)) → Locals → tree.Stmts → Bool
   stmts_write_field fields locals tree.Done = false

@@ -36,6 +36,7 @@ fn is_constant(value: &Expr) -> bool
         | Expr::Element(_, _)
         | Expr::Pop
         | Expr::Peek(_)
+        | Expr::Call(_, _)
         | Expr::Step(_, _)
         | Expr::StepElement(_, _, _) => false,
     }

@@ -5,7 +5,7 @@ ghost use Rattle.std.specs.Prelude.{◌≡◌, ◌||◌, false, IfOk, OnOk, map}
 ghost use Rattle.std.specs.Option.{option_map};
 ghost use Rattle.strc_syntax.specs.Tree as tree;
 ghost use Rattle.strc_syntax.specs.View.{expr_view, type_view, variable_view, stmt_view};
-ghost use Rattle.strc_syntax.specs.View.{block_view};
+ghost use Rattle.strc_syntax.specs.View.{block_view, listed_view};
 ghost use Rattle.strc_semantics.specs.Filters.{field_names, members_of};
 ghost use Rattle.strc_interval.specs.Loops.{with_locals, locals_after};
 ghost use Rattle.strc_interval.specs.Stateless.{write_one_of};
@@ -105,6 +105,7 @@ fn statement_writes_field(
         Stmt::Evaluate(value) | Stmt::Push(value) | Stmt::Print(value) | Stmt::Println(value) => {
             Ok(expression_writes_field(fields, locals, value))
         }
+        Stmt::Return(value) => Ok(option_writes_field(fields, locals, value)),
     }
 }
 
@@ -238,6 +239,7 @@ fn either_writes_field(fields: &Scope, locals: &Scope, first: &Expr, second: &Ex
 }
 
 /// Whether an expression writes a field.
+#[cycle(expression)]
 fn expression_writes_field(fields: &Scope, locals: &Scope, value: &Expr) -> bool
     ensures { result ≡ spec.expr_writes_field fields.now locals.now (expr_view value.now) }
 {
@@ -245,6 +247,7 @@ fn expression_writes_field(fields: &Scope, locals: &Scope, value: &Expr) -> bool
         Expr::Number(_) | Expr::Truth(_) | Expr::Read(_) | Expr::Pop => false,
         Expr::Element(_, inner) | Expr::Peek(inner) | Expr::Group(inner) | Expr::Unary(_, inner) =>
             { expression_writes_field(fields, locals, inner) }
+        Expr::Call(_, arguments) => arguments_write_field(fields, locals, arguments),
         Expr::Step(_, stepped) => is_field(fields, locals, stepped),
         Expr::StepElement(_, array, index) => {
             is_field(fields, locals, array) || expression_writes_field(fields, locals, index)
@@ -259,6 +262,19 @@ fn expression_writes_field(fields: &Scope, locals: &Scope, value: &Expr) -> bool
                     || expression_writes_field(fields, locals, other))
         }
     }
+}
+
+/// Whether one of the arguments of a call writes a field.
+#[cycle(expression)]
+fn arguments_write_field(fields: &Scope, locals: &Scope, arguments: &[Expr]) -> bool
+    ensures { result ≡ spec.exprs_write_field fields.now locals.now (listed_view arguments.now) }
+{
+    for argument in arguments {
+        if expression_writes_field(fields, locals, argument) {
+            return true;
+        }
+    }
+    false
 }
 
 /// Whether a name is that of a field where these local variables can be seen.

@@ -40,6 +40,7 @@ pub fn interval_of(value: &Expr, names: &IntervalScope) -> Option<Interval>
         | Expr::Element(_, _)
         | Expr::Pop
         | Expr::Peek(_)
+        | Expr::Call(_, _)
         | Expr::Step(_, _)
         | Expr::StepElement(_, _, _) => None,
     }

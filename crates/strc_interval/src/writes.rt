@@ -2,7 +2,8 @@
 
 ghost use Rattle.std.specs.Prelude.{◌≡◌, bytes_eq, map};
 ghost use Rattle.std.specs.Option.{option_map};
-ghost use Rattle.strc_syntax.specs.View.{expr_view, variable_view, stmt_view, block_view};
+ghost use Rattle.strc_syntax.specs.View.{expr_view, listed_view, variable_view, stmt_view};
+ghost use Rattle.strc_syntax.specs.View.{block_view};
 ghost use Rattle.strc_interval.specs.Loops as spec;
 
 use strc_base::name::Name;
@@ -66,6 +67,7 @@ pub fn statement_writes(statement: &Stmt, name: &Name) -> bool
         Stmt::Evaluate(value) | Stmt::Push(value) | Stmt::Print(value) | Stmt::Println(value) => {
             expression_writes(value, name)
         }
+        Stmt::Return(value) => option_writes(value, name),
     }
 }
 
@@ -115,6 +117,7 @@ fn option_writes(value: &Option<Expr>, name: &Name) -> bool
     }
 }
 
+#[cycle(expression)]
 fn expression_writes(value: &Expr, name: &Name) -> bool
     ensures { result ≡ spec.expr_writes name.now (expr_view value.now) }
 {
@@ -122,6 +125,7 @@ fn expression_writes(value: &Expr, name: &Name) -> bool
         Expr::Number(_) | Expr::Truth(_) | Expr::Read(_) | Expr::Pop => false,
         Expr::Element(_, inner) | Expr::Peek(inner) | Expr::Group(inner) | Expr::Unary(_, inner) =>
             { expression_writes(inner, name) }
+        Expr::Call(_, arguments) => arguments_write(arguments, name),
         Expr::Step(_, stepped) => same_name(stepped, name),
         Expr::StepElement(_, array, index) => {
             same_name(array, name) || expression_writes(index, name)
@@ -134,4 +138,17 @@ fn expression_writes(value: &Expr, name: &Name) -> bool
                 || (expression_writes(chosen, name) || expression_writes(other, name))
         }
     }
+}
+
+/// Whether one of the arguments of a call writes the variable.
+#[cycle(expression)]
+fn arguments_write(arguments: &[Expr], name: &Name) -> bool
+    ensures { result ≡ spec.exprs_write name.now (listed_view arguments.now) }
+{
+    for argument in arguments {
+        if expression_writes(argument, name) {
+            return true;
+        }
+    }
+    false
 }

@@ -68,6 +68,7 @@ initials_split names (tree.Fields kind variables) rest =
 initials_split names (tree.Init block) rest = refl
 initials_split names (tree.Prework rates block) rest = refl
 initials_split names (tree.Work rates block) rest = refl
+initials_split names (tree.Helper kind name parameters block) rest = refl
 
 inits_split : (names : Scope) (first : tree.Member) (rest : List tree.Member)
     → before (inits_nodes names (first ∷ [])) (inits_nodes names rest)
@@ -77,6 +78,7 @@ inits_split names (tree.Init block) rest =
     ap (λ n. before n (inits_nodes names rest)) (before_end (stmts_nodes names block))
 inits_split names (tree.Prework rates block) rest = refl
 inits_split names (tree.Work rates block) rest = refl
+inits_split names (tree.Helper kind name parameters block) rest = refl
 
 pub initials_more : (names : Scope) (old new : Nodes) (first : tree.Member)
     (rest : List tree.Member) → new ≡ before old (initials_nodes names (first ∷ []))

@@ -28,6 +28,7 @@ rates_with_block (tree.Fields kind variables ∷ rest) = rates_with_block rest
 rates_with_block (tree.Init block ∷ rest) = rates_with_block rest
 rates_with_block (tree.Prework rates block ∷ rest) = refl
 rates_with_block (tree.Work rates block ∷ rest) = rates_with_block rest
+rates_with_block (tree.Helper kind name parameters block ∷ rest) = rates_with_block rest
 
 no_prework_block : (members : List tree.Member) → is_some (prework_block members) ≡ false
     → body_block body.Prework members ≡ body_block body.Work members

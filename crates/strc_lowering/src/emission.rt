@@ -159,7 +159,8 @@ fn emit_initial(code: &mut Builder, names: &Layout, member: &Member) -> Result<(
 {
     match member {
         Member::Fields(declared) => emit_fields(code, names, &declared.variables),
-        Member::Init(_) | Member::Prework(_, _) | Member::Work(_, _) => Ok(()),
+        Member::Init(_) | Member::Prework(_, _) | Member::Work(_, _) | Member::Helper(_, _, _, _) =>
+            Ok(()),
     }
 }
 
@@ -212,7 +213,10 @@ fn emit_init(code: &mut Builder, names: &mut Layout, member: &Member) -> Result<
 {
     match member {
         Member::Init(block) => emit_block(code, names, block),
-        Member::Fields(_) | Member::Prework(_, _) | Member::Work(_, _) => Ok(()),
+        Member::Fields(_)
+        | Member::Prework(_, _)
+        | Member::Work(_, _)
+        | Member::Helper(_, _, _, _) => Ok(()),
     }
 }
 

@@ -34,6 +34,7 @@ enum Use {
 
 /// The code that puts an expression's value into a slot; the slots from `free` on are free.
 #[cycle(expression)]
+#[tactic(auto, using(strc_code::proofs::Nodes::before_end))]
 pub fn emit_expr(
     code: &mut Builder,
     names: &Layout,
@@ -50,6 +51,7 @@ pub fn emit_expr(
         Expr::Read(name) => code.put(Inst::Copy(into, names.slot_of(name))),
         Expr::Pop => code.put(Inst::Pop(into)),
         Expr::Peek(index) => emit_use(code, names, Use::Peek, index, into, free),
+        Expr::Call(_, _) => Ok(()),
         Expr::Group(inner) => emit_expr(code, names, inner, into, free),
         Expr::Unary(operator, operand) => {
             emit_use(code, names, Use::Unary(*operator), operand, into, free)

@@ -56,6 +56,7 @@ pub fn variable_slot(names: &Layout, value: &Expr) -> Option<u32>
         | Expr::Element(_, _)
         | Expr::Pop
         | Expr::Peek(_)
+        | Expr::Call(_, _)
         | Expr::Unary(_, _)
         | Expr::Step(_, _)
         | Expr::StepElement(_, _, _)
@@ -73,7 +74,7 @@ pub fn writes_no_variable(value: &Expr) -> bool
         Expr::Element(_, index) | Expr::Peek(index) => writes_no_variable(index),
         Expr::Group(inner) => writes_no_variable(inner),
         Expr::Unary(_, operand) => writes_no_variable(operand),
-        Expr::Step(_, _) | Expr::StepElement(_, _, _) => false,
+        Expr::Call(_, _) | Expr::Step(_, _) | Expr::StepElement(_, _, _) => false,
         Expr::Binary(_, left, right) => writes_no_variable(left) && writes_no_variable(right),
         Expr::Conditional(condition, chosen, other) => {
             writes_no_variable(condition) && writes_no_variable(chosen) && writes_no_variable(other)

@@ -83,6 +83,7 @@ fn emit_stmt(code: &mut Builder, names: &mut Layout, statement: &Stmt) -> Result
         Stmt::Push(value) => emit_output(code, names, Output::Push, value),
         Stmt::Print(value) => emit_output(code, names, Output::Print, value),
         Stmt::Println(value) => emit_output(code, names, Output::Println, value),
+        Stmt::Return(_) => Ok(()),
     }
 }
 

@@ -182,6 +182,7 @@ fn begins_statement(keyword: Keyword) -> bool {
         | Keyword::Push
         | Keyword::Print
         | Keyword::Println
+        | Keyword::Return
         | Keyword::Add
         | Keyword::Body
         | Keyword::Loop

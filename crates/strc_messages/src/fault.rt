@@ -133,7 +133,7 @@ fn first_place(tree: &FilterTree) -> Option<Span> {
             Some(rate) => Some(rate.place),
             None => block_place(block),
         },
-        Member::Init(block) => block_place(block),
+        Member::Init(block) | Member::Helper(_, _, _, block) => block_place(block),
     })
 }
 
@@ -151,6 +151,7 @@ fn cause_words(cause: Cause) -> &'static [u8] {
         Cause::Index => b" uses an index outside of its array",
         Cause::PeekRange => b" looks at an item outside of its window",
         Cause::Turns => b" makes more than 1,000,000 turns of loops",
+        Cause::Calls => b" has more than 64 calls running at once",
     }
 }
 

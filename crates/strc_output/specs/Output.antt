@@ -54,6 +54,7 @@ cause_name cause.DivZero = codes "DivZero"
 cause_name cause.Index = codes "Index"
 cause_name cause.PeekRange = codes "PeekRange"
 cause_name cause.Turns = codes "Turns"
+cause_name cause.Calls = codes "Calls"
 
 -- when a firing faults: before the first round, or in a round
 abbrev pub round_words : Round → List ℕ

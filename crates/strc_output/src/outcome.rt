@@ -198,5 +198,6 @@ pub(crate) fn cause_name(cause: Cause) -> &'static [u8]
         Cause::Index => b"Index",
         Cause::PeekRange => b"PeekRange",
         Cause::Turns => b"Turns",
+        Cause::Calls => b"Calls",
     }
 }

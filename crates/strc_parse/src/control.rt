@@ -12,7 +12,7 @@ ghost use Rattle.strc_parse.specs.Readers.{ReadsStatements};
 
 use crate::kept::{node_of, node_of_three, node_of_two, with_next, with_node_height};
 use crate::place::placed;
-use crate::simple::{argument, bracketed, ended, for_heading};
+use crate::simple::{argument, bracketed, ended, for_heading, return_value};
 use std::alloc::Global;
 use strc_grammar::lookahead::{is_keyword, is_punctuation, peek, raised, tail, unexpected};
 use strc_grammar::parsed::Parsed;
@@ -136,6 +136,7 @@ impl<F: Fn(Global, usize, &[Token]) -> Result<Parsed<'_, Stmt>, ReadError>> Stat
                 argument(self.alloc, self.depth, tail(tokens)),
                 Stmt::Println,
             ),
+            Keyword::Return => return_value(self.alloc, self.depth, tail(tokens)),
             Keyword::Add
             | Keyword::Body
             | Keyword::Loop

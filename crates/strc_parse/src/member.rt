@@ -15,13 +15,15 @@ use crate::kept::{both, with_mark, with_next};
 use std::alloc::Global;
 use strc_grammar::ReadError;
 use strc_grammar::expression::{LOWEST_PRECEDENCE, expression};
-use strc_grammar::lookahead::{expect, is_punctuation, peek, tail, unexpected};
+use strc_grammar::lookahead::{expect, is_heading, is_punctuation, name, peek, tail, unexpected};
+use strc_grammar::parameter::closed_parameters;
 use strc_grammar::parsed::Parsed;
+use strc_grammar::part::{before, beside};
 use strc_grammar::place::span_of;
 use strc_grammar::variable::declared;
 use strc_lex::token::{Keyword, Punctuation, Token, TokenKind};
-use strc_syntax::node::{init_of, prework_of, work_of};
-use strc_syntax::tree::{Expr, Member, RateKind, RateTree, Stmt};
+use strc_syntax::node::{helper_of, init_of, prework_of, work_of};
+use strc_syntax::tree::{Expr, HelperType, Member, RateKind, RateTree, Stmt};
 
 /// The kind of rate whose keyword comes first.
 #[tactic(auto, unfolding(strc_grammar::specs::Streams::rate_kind))]
@@ -173,6 +175,50 @@ impl<F: Fn(Global, usize, &[Token]) -> Result<Parsed<'_, Stmt>, ReadError>> Stat
         Ok(Parsed::new(work_of(rates, block), phase.height, phase.rest))
     }
 
+    /// A helper function: after its type.
+    #[tactic(auto, unfolding(strc_grammar::specs::Streams::helper_function))]
+    fn helper_function<'t>(
+        &self,
+        kind: HelperType,
+        tokens: &'t [Token],
+    ) -> Result<Parsed<'t, Member>, ReadError>
+        requires deep { 0 < self.now.depth }
+        requires reads { ReadsStatements (self.now.depth - 1)
+            (F.pre self.now.reader) (F.post self.now.reader) }
+        ensures { Gives (parsed member_view) result
+            (spec.helper_function (spec.statement (self.now.depth - 1)) kind (kinds tokens.now)) }
+    {
+        let (name, rest) = name(tokens)?;
+        let (name, rest) = before(Punctuation::OpenParen, name, rest)?;
+        let (name, given) = beside(name, closed_parameters(self.alloc, rest))?;
+        let (parameters, rest) = given;
+        let (heading, block) = beside((name, parameters), self.braced(rest))?;
+        let (name, parameters) = heading;
+        let whole = helper_of(kind, name, parameters, block.value);
+        Ok(Parsed::new(whole, block.height, block.rest))
+    }
+
+    /// Fields or a helper function of this type: at the type's keyword.
+    #[tactic(auto, unfolding(strc_grammar::specs::Streams::typed_member))]
+    fn typed_member<'t>(
+        &self,
+        kind: HelperType,
+        tokens: &'t [Token],
+    ) -> Result<Parsed<'t, Member>, ReadError>
+        requires deep { 0 < self.now.depth }
+        requires reads { ReadsStatements (self.now.depth - 1)
+            (F.pre self.now.reader) (F.post self.now.reader) }
+        ensures { Gives (parsed member_view) result
+            (spec.typed_member (self.now.depth - 1) (spec.statement (self.now.depth - 1)) kind
+            (kinds tokens.now)) }
+    {
+        if is_heading(tail(tokens)) {
+            self.helper_function(kind, tail(tokens))
+        } else {
+            fields(self.alloc, self.depth - 1, tokens)
+        }
+    }
+
     #[tactic(auto, unfolding(strc_grammar::specs::Streams::member))]
     fn member<'t>(&self, tokens: &'t [Token]) -> Result<Parsed<'t, Member>, ReadError>
         requires deep { 0 < self.now.depth }
@@ -182,10 +228,14 @@ impl<F: Fn(Global, usize, &[Token]) -> Result<Parsed<'_, Stmt>, ReadError>> Stat
             (spec.member (self.now.depth - 1) (spec.statement (self.now.depth - 1))
             (kinds tokens.now)) }
     {
-        let limit = self.depth - 1;
         match peek(tokens) {
-            Some(TokenKind::Keyword(Keyword::Boolean)) => fields(self.alloc, limit, tokens),
-            Some(TokenKind::Keyword(Keyword::Int)) => fields(self.alloc, limit, tokens),
+            Some(TokenKind::Keyword(Keyword::Boolean)) => {
+                self.typed_member(HelperType::Boolean, tokens)
+            }
+            Some(TokenKind::Keyword(Keyword::Int)) => self.typed_member(HelperType::Int, tokens),
+            Some(TokenKind::Keyword(Keyword::Void)) => {
+                self.helper_function(HelperType::Void, tail(tokens))
+            }
             Some(TokenKind::Keyword(Keyword::Init)) => self.init(tail(tokens)),
             Some(TokenKind::Keyword(Keyword::Prework)) => self.prework(tail(tokens)),
             Some(TokenKind::Keyword(Keyword::Work)) => self.work(tail(tokens)),

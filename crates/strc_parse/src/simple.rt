@@ -226,21 +226,35 @@ pub(crate) fn argument(
     with_node_height(depth, with_mark(Punctuation::Semicolon, read))
 }
 
-/// The condition of a `for`, if there is one, and its semicolon.
-#[tactic(auto, unfolding(strc_grammar::specs::Reading::condition))]
-fn condition(
+/// An expression, if there is one, and its semicolon.
+#[tactic(auto, unfolding(strc_grammar::specs::Reading::optional_value))]
+fn optional_value(
     alloc: Global,
     depth: usize,
     tokens: &[Token],
 ) -> Result<Parsed<'_, Option<Expr>>, ReadError>
     ensures { Gives (parsed (option_map expr_view)) result
-        (spec.condition depth (kinds tokens.now)) }
+        (spec.optional_value depth (kinds tokens.now)) }
 {
     if is_punctuation(Punctuation::Semicolon, tokens) {
         return Ok(Parsed::new(None, 0, tail(tokens)));
     }
     let read = closed(alloc, depth, Punctuation::Semicolon, tokens)?;
     Ok(Parsed::new(Some(read.value), read.height, read.rest))
+}
+
+/// `return`: after the keyword.
+#[tactic(auto, unfolding(strc_grammar::specs::Reading::return_value))]
+pub(crate) fn return_value(
+    alloc: Global,
+    depth: usize,
+    tokens: &[Token],
+) -> Result<Parsed<'_, Stmt>, ReadError>
+    requires { 0 < depth }
+    ensures { Gives (parsed stmt_view) result (spec.return_value depth (kinds tokens.now)) }
+{
+    let value = optional_value(alloc, depth - 1, tokens);
+    node_of(with_node_height(depth, value), Stmt::Return)
 }
 
 /// The step of a `for`, and the bracket after it.
@@ -263,7 +277,7 @@ fn after_first(
     requires { 0 < depth }
     ensures { Gives (parsed after_first_view) result (spec.after_first depth (kinds tokens.now)) }
 {
-    let read = condition(alloc, depth, tokens)?;
+    let read = optional_value(alloc, depth, tokens)?;
     both(read.value, read.height, last_part(alloc, depth, read.rest))
 }
 

@@ -22,6 +22,7 @@ sought_for cause.DivZero = sought.Division
 sought_for cause.Index = sought.Element
 sought_for cause.PeekRange = sought.Peek
 sought_for cause.Turns = sought.Loop
+sought_for cause.Calls = sought.Loop
 
 -- one where this is what is looked for
 abbrev pub one : Sought → Sought → ℕ
@@ -59,6 +60,7 @@ expression_count looked (tree.Element name index) =
     expression_count looked index + one looked sought.Element
 expression_count looked tree.Pop = 0
 expression_count looked (tree.Peek index) = expression_count looked index + one looked sought.Peek
+expression_count looked (tree.Call name arguments) = 0
 expression_count looked (tree.Group inner) = expression_count looked inner
 expression_count looked (tree.Unary operator operand) = expression_count looked operand
 expression_count looked (tree.Step operator name) = 0
@@ -104,6 +106,7 @@ abbrev mutual
   stmt_count looked (tree.Print value) = expression_count looked value
   stmt_count looked (tree.Println value) = expression_count looked value
   stmt_count looked (tree.Compose statement) = 0
+  stmt_count looked (tree.Return value) = 0
 
   pub row_count : Sought → tree.Stmts → ℕ
   row_count looked tree.Done = 0
@@ -115,6 +118,7 @@ member_count looked (tree.Fields kind variables) = variables_count looked variab
 member_count looked (tree.Init block) = row_count looked block
 member_count looked (tree.Prework rates block) = 0
 member_count looked (tree.Work rates block) = 0
+member_count looked (tree.Helper kind name parameters block) = 0
 
 abbrev pub start_count : Sought → List tree.Member → ℕ
 start_count looked [] = 0

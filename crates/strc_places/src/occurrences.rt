@@ -80,7 +80,7 @@ fn walk_member(member: &Member, walk: &mut Walk) -> Result<(), NoMemory>
     match member {
         Member::Fields(fields) => walk_variables(&fields.variables, Some(fields.place), walk),
         Member::Init(block) => walk_block(block, None, walk),
-        Member::Prework(_, _) | Member::Work(_, _) => Ok(()),
+        Member::Prework(_, _) | Member::Work(_, _) | Member::Helper(_, _, _, _) => Ok(()),
     }
 }
 
@@ -103,7 +103,7 @@ fn walk_statement(statement: &Stmt, here: Option<Span>, walk: &mut Walk) -> Resu
     ensures sought { OnOk result (walk.new.sought ≡ walk.old.sought) }
 {
     match statement {
-        Stmt::Empty | Stmt::Compose(_) => Ok(()),
+        Stmt::Empty | Stmt::Return(_) | Stmt::Compose(_) => Ok(()),
         Stmt::Block(body) => walk_block(body, here, walk),
         Stmt::Placed(place, inner) => walk_statement(inner, Some(*place), walk),
         Stmt::Declare(declared) => walk_variables(&declared.variables, here, walk),
@@ -180,7 +180,12 @@ fn walk_expression(value: &Expr, here: Option<Span>, walk: &mut Walk) -> Result<
     ensures sought { OnOk result (walk.new.sought ≡ walk.old.sought) }
 {
     match value {
-        Expr::Number(_) | Expr::Truth(_) | Expr::Read(_) | Expr::Pop | Expr::Step(_, _) => Ok(()),
+        Expr::Number(_)
+        | Expr::Truth(_)
+        | Expr::Read(_)
+        | Expr::Pop
+        | Expr::Call(_, _)
+        | Expr::Step(_, _) => Ok(()),
         Expr::Group(inner) | Expr::Unary(_, inner) => walk_expression(inner, here, walk),
         Expr::Peek(index) => {
             walk_expression(index, here, walk)?;
@@ -214,7 +219,7 @@ pub fn sought_for(cause: Cause) -> Sought
         Cause::DivZero => Sought::Division,
         Cause::Index => Sought::Element,
         Cause::PeekRange => Sought::Peek,
-        Cause::Turns => Sought::Loop,
+        Cause::Turns | Cause::Calls => Sought::Loop,
     }
 }
 

@@ -30,6 +30,8 @@ there_before (tree.Fields kind variables ∷ rest) rates block some =
 there_before (tree.Init inner ∷ rest) rates block some = there_before rest rates block some
 there_before (tree.Prework declared inner ∷ rest) rates block some = refl
 there_before (tree.Work declared inner ∷ rest) rates block some = there_before rest rates block some
+there_before (tree.Helper kind name parameters inner ∷ rest) rates block some =
+    there_before rest rates block some
 
 -- a prework that is there is the body of the first firing
 pub prework_there : (members : List tree.Member) → is_some (prework_block members) ≡ true

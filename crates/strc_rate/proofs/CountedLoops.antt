@@ -149,6 +149,7 @@ first_sound locals (tree.For first condition step body) = tt
 first_sound locals (tree.Push value) = tt
 first_sound locals (tree.Print value) = tt
 first_sound locals (tree.Println value) = tt
+first_sound locals (tree.Return value) = tt
 
 -- ---- the loop
 

@@ -338,6 +338,7 @@ value_counts port (tree.Peek index) store =
     (λ at h. then_ok (peeked_from port at.0 at.1.traffic) _ (λ item. Unit {0})
     (λ given. Counted (expr_counts index) store.traffic given.1.traffic)
     (any_ok (peeked_from port at.0 at.1.traffic)) (λ item _. h))
+value_counts port (tree.Call name arguments) store = tt
 value_counts port (tree.Group inner) store = value_counts port inner store
 value_counts port (tree.Unary operator operand) store =
     then_ok (value_of port operand store) _

@@ -107,6 +107,7 @@ expr_entries tree.Pop intervals popped = refl
 expr_entries (tree.Peek index) intervals popped =
     two_parts (expr_sites intervals popped index) (_ ∷ []) (peeks_of_expr index)
     (index ∷ []) (expr_entries index intervals popped) refl
+expr_entries (tree.Call name arguments) intervals popped = refl
 expr_entries (tree.Group inner) intervals popped =
     expr_entries inner intervals popped
 expr_entries (tree.Unary operator operand) intervals popped =
@@ -149,6 +150,7 @@ mutual
       → AsMany (stmt_sites intervals popped s) (peeks_of_stmt s)
   stmt_entries tree.Empty intervals popped = refl
   stmt_entries (tree.Compose statement) intervals popped = refl
+  stmt_entries (tree.Return value) intervals popped = refl
   stmt_entries (tree.Block body) intervals popped =
       stmts_entries body intervals popped
   stmt_entries (tree.Declare kind variables) intervals popped =

@@ -398,6 +398,7 @@ interval_sound intervals (tree.Truth value) = tt
 interval_sound intervals (tree.Element name index) = tt
 interval_sound intervals tree.Pop = tt
 interval_sound intervals (tree.Peek index) = tt
+interval_sound intervals (tree.Call name arguments) = tt
 interval_sound intervals (tree.Step operator name) = tt
 interval_sound intervals (tree.StepElement operator name index) = tt
 interval_sound intervals (tree.Conditional condition chosen other) =

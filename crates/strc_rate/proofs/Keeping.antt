@@ -175,6 +175,7 @@ value_holds P writes holding port (tree.Peek index) store covers h =
     (value_holds P writes holding port index store covers h)
     (λ place k. then_ok (peeked_from port place.0 place.1.traffic) _ (λ item. Unit {0})
     (λ given. P given.1) (any_ok (peeked_from port place.0 place.1.traffic)) (λ item _. k))
+value_holds P writes holding port (tree.Call name arguments) store covers h = tt
 value_holds P writes holding port (tree.Group inner) store covers h =
     value_holds P writes holding port inner store covers h
 value_holds P writes holding port (tree.Unary operator operand) store covers h =

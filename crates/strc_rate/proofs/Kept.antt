@@ -120,6 +120,7 @@ fields_bare block (tree.Fields kind variables ∷ rest) e =
 fields_bare block (tree.Init body ∷ rest) e = fields_bare block rest e
 fields_bare block (tree.Prework rates body ∷ rest) e = fields_bare block rest e
 fields_bare block (tree.Work rates body ∷ rest) e = fields_bare block rest e
+fields_bare block (tree.Helper kind name parameters body ∷ rest) e = fields_bare block rest e
 
 -- ---- filters without state
 

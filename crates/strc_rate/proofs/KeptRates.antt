@@ -123,6 +123,7 @@ rates_with_block (tree.Fields kind variables ∷ rest) = rates_with_block rest
 rates_with_block (tree.Init block ∷ rest) = rates_with_block rest
 rates_with_block (tree.Prework rates block ∷ rest) = refl
 rates_with_block (tree.Work rates block ∷ rest) = rates_with_block rest
+rates_with_block (tree.Helper kind name parameters block ∷ rest) = rates_with_block rest
 
 some_kept : (r : Result BodyRates RateError) (other : BodyRates) (R : BodyRates → Type 0)
     → IfOk r R → IfOk (some_prework r) (λ rates. R (unwrap_or rates other))

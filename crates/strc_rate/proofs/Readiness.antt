@@ -207,6 +207,7 @@ names_after_intervals intervals (tree.For first condition step body) = refl
 names_after_intervals intervals (tree.Push value) = refl
 names_after_intervals intervals (tree.Print value) = refl
 names_after_intervals intervals (tree.Println value) = refl
+names_after_intervals intervals (tree.Return value) = refl
 
 -- a name whose interval is known after a declaration isn't declared there, and its interval was
 -- known before
@@ -247,6 +248,7 @@ known_before intervals (tree.For first condition step body) name e = (e, refl)
 known_before intervals (tree.Push value) name e = (e, refl)
 known_before intervals (tree.Print value) name e = (e, refl)
 known_before intervals (tree.Println value) name e = (e, refl)
+known_before intervals (tree.Return value) name e = (e, refl)
 
 -- and so is the interval itself
 interval_by : (intervals : Intervals) (name : List ℕ) (t : Bool) → t ≡ false
@@ -281,6 +283,7 @@ interval_after intervals (tree.For first condition step body) name e = refl
 interval_after intervals (tree.Push value) name e = refl
 interval_after intervals (tree.Print value) name e = refl
 interval_after intervals (tree.Println value) name e = refl
+interval_after intervals (tree.Return value) name e = refl
 
 -- ---- variables that are not shadowed
 
@@ -328,6 +331,7 @@ shown (tree.For first condition step body) scope n name le bare e = bare
 shown (tree.Push value) scope n name le bare e = bare
 shown (tree.Print value) scope n name le bare e = bare
 shown (tree.Println value) scope n name le bare e = bare
+shown (tree.Return value) scope n name le bare e = bare
 
 -- what a statement neither writes nor shadows has the same cells
 done_cells : (s : tree.Stmt) (before after : Variables) (name : List ℕ)

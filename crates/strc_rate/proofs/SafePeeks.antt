@@ -331,6 +331,8 @@ mutual
       fixed ready stand = tt
   stmt_safe window port whole entries (tree.Compose statement) names intervals popped place store
       closed counted fixed ready stand = tt
+  stmt_safe window port whole entries (tree.Return value) names intervals popped place store closed
+      counted fixed ready stand = tt
   stmt_safe window port whole entries (tree.Block body) names intervals popped place store closed
       counted fixed ready stand = stmts_safe window port whole entries body names intervals popped
       place store closed counted fixed ready stand

@@ -153,6 +153,8 @@ expr_safe window port whole entries (tree.Peek index) intervals popped place sto
           (stand_after window entries place sites one (peeks_of_expr index)
           (expr_entries index intervals popped) stand).0,
     )
+expr_safe window port whole entries (tree.Call name arguments) intervals popped place store counted
+    fixed ready stand = tt
 expr_safe window port whole entries (tree.Group inner) intervals popped place store counted fixed
     ready stand =
     expr_safe window port whole entries inner intervals popped place store counted fixed ready stand

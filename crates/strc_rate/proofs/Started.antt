@@ -65,6 +65,8 @@ members_shape scope (tree.Fields kind variables ∷ rest) store h =
 members_shape scope (tree.Init block ∷ rest) store h = members_shape scope rest store h
 members_shape scope (tree.Prework rates block ∷ rest) store h = members_shape scope rest store h
 members_shape scope (tree.Work rates block ∷ rest) store h = members_shape scope rest store h
+members_shape scope (tree.Helper kind name parameters block ∷ rest) store h =
+    members_shape scope rest store h
 
 inits_shape : (scope names : Scope) (members : List tree.Member) (store : Store)
     → AreClosedMembers names members → HasShape scope store
@@ -84,6 +86,8 @@ inits_shape scope names (tree.Init block ∷ rest) store closed h =
 inits_shape scope names (tree.Prework rates block ∷ rest) store closed h =
     inits_shape scope names rest store closed.1 h
 inits_shape scope names (tree.Work rates block ∷ rest) store closed h =
+    inits_shape scope names rest store closed.1 h
+inits_shape scope names (tree.Helper kind name parameters block ∷ rest) store closed h =
     inits_shape scope names rest store closed.1 h
 
 pub fields_fit : StartedFieldsFit

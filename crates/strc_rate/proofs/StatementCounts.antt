@@ -378,6 +378,7 @@ mutual
   stmt_counted port tree.Empty locals names store closed seen = stays store.traffic
   stmt_counted port (tree.Compose statement) locals names store closed seen =
       stays store.traffic
+  stmt_counted port (tree.Return value) locals names store closed seen = stays store.traffic
   stmt_counted port (tree.Block body) locals names store closed seen =
       inside_counts (stmts_counts locals body) (stmts_done port body) store
       (stmts_counted port body locals names store closed seen)

@@ -115,6 +115,7 @@ module _ (turns : ℕ) (counts : Option Counts) where
       (expr_moved index intervals popped)
       (ap (λ p. Reached (interval_of intervals index) p ∷ [])
       (advance_later popped (expr_counts index)))
+  expr_moved (tree.Call name arguments) intervals popped = refl
   expr_moved (tree.Group inner) intervals popped = expr_moved inner intervals popped
   expr_moved (tree.Unary operator operand) intervals popped = expr_moved operand intervals popped
   expr_moved (tree.Step operator name) intervals popped = refl
@@ -169,6 +170,7 @@ module _ (turns : ℕ) (counts : Option Counts) where
         → stmt_sites intervals (later popped) s ≡ moved (stmt_sites intervals popped s)
     stmt_moved tree.Empty intervals popped = refl
     stmt_moved (tree.Compose statement) intervals popped = refl
+    stmt_moved (tree.Return value) intervals popped = refl
     stmt_moved (tree.Block body) intervals popped = stmts_moved body intervals popped
     stmt_moved (tree.Declare kind variables) intervals popped =
         variables_moved variables intervals popped

@@ -132,6 +132,7 @@ stmt_bares (tree.For first condition step body) scope n name le bare = (bare, re
 stmt_bares (tree.Push value) scope n name le bare = (bare, refl)
 stmt_bares (tree.Print value) scope n name le bare = (bare, refl)
 stmt_bares (tree.Println value) scope n name le bare = (bare, refl)
+stmt_bares (tree.Return value) scope n name le bare = (bare, refl)
 
 -- after what may shadow a name
 pub unless_shadowed : (shadowed written : Bool) → (not shadowed && written) ≡ false
@@ -360,6 +361,11 @@ mutual
       (λ after. Done (λ name. stmt_writes name s)
       (names_after (scope_of store.variables) s) store.variables after.variables)
   stmt_keeps port tree.Empty names store closed =
+      record {
+        grown = grown_same _ store.variables store.variables (same_refl _ store.variables);
+        exact = refl;
+      }
+  stmt_keeps port (tree.Return value) names store closed =
       record {
         grown = grown_same _ store.variables store.variables (same_refl _ store.variables);
         exact = refl;

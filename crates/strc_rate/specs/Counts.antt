@@ -95,6 +95,7 @@ expr_counts (tree.Read name) = Some no_items
 expr_counts (tree.Element name index) = expr_counts index
 expr_counts tree.Pop = Some one_pop
 expr_counts (tree.Peek index) = expr_counts index
+expr_counts (tree.Call name arguments) = Some no_items
 expr_counts (tree.Group inner) = expr_counts inner
 expr_counts (tree.Unary operator operand) = expr_counts operand
 expr_counts (tree.Step operator name) = Some no_items
@@ -125,6 +126,7 @@ abbrev mutual
   pub stmt_counts : Locals → tree.Stmt → Option Counts
   stmt_counts locals tree.Empty = Some no_items
   stmt_counts locals (tree.Compose statement) = Some no_items
+  stmt_counts locals (tree.Return value) = Some no_items
   stmt_counts locals (tree.Block body) = stmts_counts locals body
   stmt_counts locals (tree.Declare kind variables) = variables_counts variables
   stmt_counts locals (tree.Evaluate value) = expr_counts value

@@ -10,6 +10,7 @@ peeks_of_expr (tree.Read name) = []
 peeks_of_expr (tree.Element name index) = peeks_of_expr index
 peeks_of_expr tree.Pop = []
 peeks_of_expr (tree.Peek index) = peeks_of_expr index ++ index ∷ []
+peeks_of_expr (tree.Call name arguments) = []
 peeks_of_expr (tree.Group inner) = peeks_of_expr inner
 peeks_of_expr (tree.Unary operator operand) = peeks_of_expr operand
 peeks_of_expr (tree.Step operator name) = []
@@ -31,6 +32,7 @@ abbrev mutual
   pub peeks_of_stmt : tree.Stmt → List tree.Expr
   peeks_of_stmt tree.Empty = []
   peeks_of_stmt (tree.Compose statement) = []
+  peeks_of_stmt (tree.Return value) = []
   peeks_of_stmt (tree.Block body) = peeks_of body
   peeks_of_stmt (tree.Declare kind variables) = peeks_of_variables variables
   peeks_of_stmt (tree.Evaluate value) = peeks_of_expr value

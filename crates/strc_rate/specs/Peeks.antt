@@ -94,6 +94,7 @@ expr_sites intervals popped tree.Pop = []
 expr_sites intervals popped (tree.Peek index) =
     expr_sites intervals popped index
     ++ Reached (interval_of intervals index) (advance popped (expr_counts index)) ∷ []
+expr_sites intervals popped (tree.Call name arguments) = []
 expr_sites intervals popped (tree.Group inner) = expr_sites intervals popped inner
 expr_sites intervals popped (tree.Unary operator operand) =
     expr_sites intervals popped operand
@@ -141,6 +142,7 @@ abbrev mutual
   pub stmt_sites : Intervals → PopInterval → tree.Stmt → List PeekSite
   stmt_sites intervals popped tree.Empty = []
   stmt_sites intervals popped (tree.Compose statement) = []
+  stmt_sites intervals popped (tree.Return value) = []
   stmt_sites intervals popped (tree.Block body) = stmts_sites intervals popped body
   stmt_sites intervals popped (tree.Declare kind variables) =
       variables_sites intervals popped variables

@@ -33,6 +33,7 @@ ExprIsSafe port closed place tree.Pop store = Unit {0}
 ExprIsSafe port closed place (tree.Peek index) store =
     ExprIsSafe port closed place index store
     × PeekIsSafe port closed (place + length (peeks_of_expr index)) index store
+ExprIsSafe port closed place (tree.Call name arguments) store = Unit {0}
 ExprIsSafe port closed place (tree.Group inner) store = ExprIsSafe port closed place inner store
 ExprIsSafe port closed place (tree.Unary operator operand) store =
     ExprIsSafe port closed place operand store
@@ -83,6 +84,7 @@ abbrev mutual
   pub StmtIsSafe : Port → (closed : List Bool) → (place : ℕ) → tree.Stmt → Store → Type 0
   StmtIsSafe port closed place tree.Empty store = Unit {0}
   StmtIsSafe port closed place (tree.Compose statement) store = Unit {0}
+  StmtIsSafe port closed place (tree.Return value) store = Unit {0}
   StmtIsSafe port closed place (tree.Block body) store = StmtsAreSafe port closed place body store
   StmtIsSafe port closed place (tree.Declare kind variables) store =
       VariablesAreSafe port closed place (cells_of kind) variables store

@@ -32,7 +32,7 @@ pub(crate) fn check_peeks_in_expression(
         sites.old.items sites.new.items) }
 {
     match value {
-        Expr::Number(_) | Expr::Truth(_) | Expr::Read(_) | Expr::Step(_, _) => {
+        Expr::Number(_) | Expr::Truth(_) | Expr::Read(_) | Expr::Call(_, _) | Expr::Step(_, _) => {
             Ok(Some(no_items()))
         }
         Expr::Pop => Ok(Some(one_pop())),

@@ -92,7 +92,7 @@ fn check_peeks_in_statement(
         sites.old.items sites.new.items names.new) }
 {
     match statement {
-        Stmt::Empty | Stmt::Compose(_) => Ok(Some(no_items())),
+        Stmt::Empty | Stmt::Return(_) | Stmt::Compose(_) => Ok(Some(no_items())),
         Stmt::Block(body) => check_peeks_in_block(body, names, popped, sites),
         Stmt::Placed(_, inner) => check_peeks_in_statement(inner, names, popped, sites),
         Stmt::Declare(declared) => {

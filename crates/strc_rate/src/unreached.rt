@@ -31,7 +31,7 @@ pub(crate) fn skip_statement(statement: &Stmt, sites: &mut Vec<PeekSite>) -> Res
         ≡ sites.old.items ++ spec.unreached (text.peeks_of_stmt (stmt_view statement.now))) }
 {
     match statement {
-        Stmt::Empty | Stmt::Compose(_) => Ok(()),
+        Stmt::Empty | Stmt::Return(_) | Stmt::Compose(_) => Ok(()),
         Stmt::Block(body) => skip_block(body, sites),
         Stmt::Placed(_, inner) => skip_statement(inner, sites),
         Stmt::Declare(declared) => skip_variables(&declared.variables, sites),
@@ -128,7 +128,12 @@ pub(crate) fn skip_expression(value: &Expr, sites: &mut Vec<PeekSite>) -> Result
         ≡ sites.old.items ++ spec.unreached (text.peeks_of_expr (expr_view value.now))) }
 {
     match value {
-        Expr::Number(_) | Expr::Truth(_) | Expr::Read(_) | Expr::Pop | Expr::Step(_, _) => Ok(()),
+        Expr::Number(_)
+        | Expr::Truth(_)
+        | Expr::Read(_)
+        | Expr::Pop
+        | Expr::Call(_, _)
+        | Expr::Step(_, _) => Ok(()),
         Expr::Peek(index) => skip_peek(index, sites),
         Expr::Element(_, inner)
         | Expr::Group(inner)

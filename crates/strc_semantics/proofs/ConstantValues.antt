@@ -143,6 +143,7 @@ constant_is_value port (tree.Read name) store h = absurd h
 constant_is_value port (tree.Element name index) store h = absurd h
 constant_is_value port tree.Pop store h = absurd h
 constant_is_value port (tree.Peek index) store h = absurd h
+constant_is_value port (tree.Call name arguments) store h = absurd h
 constant_is_value port (tree.Group inner) store h = constant_is_value port inner store h
 constant_is_value port (tree.Unary operator operand) store h =
     beside-then store (constant_value operand) (λ value. Ok (unary_value operator value))

@@ -55,6 +55,7 @@ base_of_after base names (tree.For first condition step body) h = h
 base_of_after base names (tree.Push value) h = h
 base_of_after base names (tree.Print value) h = h
 base_of_after base names (tree.Println value) h = h
+base_of_after base names (tree.Return value) h = h
 
 -- without the inner ones they are as before
 pub drop_inner : (base names : Scope) → IsBaseOf base names
@@ -89,3 +90,4 @@ no_fields (member.Fields declared) rest other = absurd (other declared refl)
 no_fields (member.Init' shape block) rest other = refl
 no_fields (member.Prework' rates shape block) rest other = refl
 no_fields (member.Work' rates shape block) rest other = refl
+no_fields (member.Helper' kind name parameters shape block) rest other = refl

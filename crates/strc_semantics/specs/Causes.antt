@@ -2,9 +2,11 @@
 use Rattle.std.specs.Prelude.{ℕ, List, codes}
 use Rattle.strc_semantics.specs.declared.fault.Cause.{Cause}
 use Rattle.strc_semantics.specs.declared.fault.Cause.TheVariants.{DivZero, Index, PeekRange, Turns}
+use Rattle.strc_semantics.specs.declared.fault.Cause.TheVariants.{Calls}
 
 abbrev pub cause_name : Cause → List ℕ
 cause_name DivZero = codes "DivZero"
 cause_name Index = codes "Index"
 cause_name PeekRange = codes "PeekRange"
 cause_name Turns = codes "Turns"
+cause_name Calls = codes "Calls"

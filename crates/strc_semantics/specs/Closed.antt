@@ -15,6 +15,7 @@ IsClosed names (tree.Read name) = IsNamed names name
 IsClosed names (tree.Element name index) = IsNamed names name × IsClosed names index
 IsClosed names tree.Pop = Unit {0}
 IsClosed names (tree.Peek index) = IsClosed names index
+IsClosed names (tree.Call name arguments) = ⊥
 IsClosed names (tree.Group inner) = IsClosed names inner
 IsClosed names (tree.Unary operator operand) = IsClosed names operand
 IsClosed names (tree.Step operator name) = IsNamed names name
@@ -64,6 +65,7 @@ abbrev mutual
   IsClosedStmt names (tree.Push value) = IsClosed names value
   IsClosedStmt names (tree.Print value) = IsClosed names value
   IsClosedStmt names (tree.Println value) = IsClosed names value
+  IsClosedStmt names (tree.Return value) = ⊥
 
   pub AreClosed : Scope → tree.Stmts → Type 0
   AreClosed names tree.Done = Unit {0}
@@ -83,6 +85,7 @@ IsClosedMember names (tree.Fields kind variables) = AreClosedFields names (cells
 IsClosedMember names (tree.Init block) = AreClosed names block
 IsClosedMember names (tree.Prework rates block) = AreClosed names block
 IsClosedMember names (tree.Work rates block) = AreClosed names block
+IsClosedMember names (tree.Helper kind name parameters block) = ⊥
 
 abbrev pub AreClosedMembers : Scope → List tree.Member → Type 0
 AreClosedMembers names [] = Unit {0}

@@ -28,6 +28,7 @@ constant_value (tree.Read name) = Err Index
 constant_value (tree.Element name index) = Err Index
 constant_value tree.Pop = Err Index
 constant_value (tree.Peek index) = Err Index
+constant_value (tree.Call name arguments) = Err Index
 constant_value (tree.Group inner) = constant_value inner
 constant_value (tree.Unary operator operand) =
     result_and_then (constant_value operand) (λ value. Ok (unary_value operator value))
@@ -48,6 +49,7 @@ IsConstant (tree.Read name) = ⊥
 IsConstant (tree.Element name index) = ⊥
 IsConstant tree.Pop = ⊥
 IsConstant (tree.Peek index) = ⊥
+IsConstant (tree.Call name arguments) = ⊥
 IsConstant (tree.Group inner) = IsConstant inner
 IsConstant (tree.Unary operator operand) = IsConstant operand
 IsConstant (tree.Step operator name) = ⊥

@@ -46,6 +46,7 @@ sized_fields (tree.Fields kind variables ∷ rest) =
 sized_fields (tree.Init block ∷ rest) = sized_fields rest
 sized_fields (tree.Prework rates block ∷ rest) = sized_fields rest
 sized_fields (tree.Work rates block ∷ rest) = sized_fields rest
+sized_fields (tree.Helper kind name parameters block ∷ rest) = sized_fields rest
 
 -- the names of the fields, in order
 abbrev pub field_names : List tree.Member → List (List ℕ)
@@ -54,6 +55,7 @@ field_names (tree.Fields kind variables ∷ rest) = declared_names variables ++ 
 field_names (tree.Init block ∷ rest) = field_names rest
 field_names (tree.Prework rates block ∷ rest) = field_names rest
 field_names (tree.Work rates block ∷ rest) = field_names rest
+field_names (tree.Helper kind name parameters block ∷ rest) = field_names rest
 
 -- how many works there are
 abbrev pub work_count : List tree.Member → ℕ
@@ -62,6 +64,7 @@ work_count (tree.Fields kind variables ∷ rest) = work_count rest
 work_count (tree.Init block ∷ rest) = work_count rest
 work_count (tree.Prework rates block ∷ rest) = work_count rest
 work_count (tree.Work rates block ∷ rest) = 1 + work_count rest
+work_count (tree.Helper kind name parameters block ∷ rest) = work_count rest
 
 -- the block of the first work
 abbrev pub work_block : List tree.Member → tree.Stmts
@@ -70,6 +73,7 @@ work_block (tree.Fields kind variables ∷ rest) = work_block rest
 work_block (tree.Init block ∷ rest) = work_block rest
 work_block (tree.Prework rates block ∷ rest) = work_block rest
 work_block (tree.Work rates block ∷ rest) = block
+work_block (tree.Helper kind name parameters block ∷ rest) = work_block rest
 
 -- the rates of the first work
 abbrev pub work_rates : List tree.Member → List tree.Rate
@@ -78,6 +82,7 @@ work_rates (tree.Fields kind variables ∷ rest) = work_rates rest
 work_rates (tree.Init block ∷ rest) = work_rates rest
 work_rates (tree.Prework rates block ∷ rest) = work_rates rest
 work_rates (tree.Work rates block ∷ rest) = rates
+work_rates (tree.Helper kind name parameters block ∷ rest) = work_rates rest
 
 -- the block of the first prework, where there is one
 abbrev pub prework_block : List tree.Member → Option tree.Stmts
@@ -86,6 +91,7 @@ prework_block (tree.Fields kind variables ∷ rest) = prework_block rest
 prework_block (tree.Init block ∷ rest) = prework_block rest
 prework_block (tree.Prework rates block ∷ rest) = Some block
 prework_block (tree.Work rates block ∷ rest) = prework_block rest
+prework_block (tree.Helper kind name parameters block ∷ rest) = prework_block rest
 
 -- the rates of the first prework, where there is one
 abbrev pub prework_rates : List tree.Member → Option (List tree.Rate)
@@ -94,6 +100,7 @@ prework_rates (tree.Fields kind variables ∷ rest) = prework_rates rest
 prework_rates (tree.Init block ∷ rest) = prework_rates rest
 prework_rates (tree.Prework rates block ∷ rest) = Some rates
 prework_rates (tree.Work rates block ∷ rest) = prework_rates rest
+prework_rates (tree.Helper kind name parameters block ∷ rest) = prework_rates rest
 
 -- the block of a body, and its rates: without a prework each body is the work
 abbrev pub body_block : Body → List tree.Member → tree.Stmts
@@ -166,6 +173,7 @@ abbrev mutual
   stmt_prints (tree.Push value) = false
   stmt_prints (tree.Print value) = true
   stmt_prints (tree.Println value) = true
+  stmt_prints (tree.Return value) = false
 
   -- whether one of the statements prints
   pub stmts_print : tree.Stmts → Bool

@@ -13,7 +13,7 @@ use Rattle.strc_syntax.specs.declared.tree.BinaryOperator.{BinaryOperator}
 use Rattle.strc_syntax.specs.declared.tree.BinaryOperator.TheVariants as binary
 use Rattle.strc_semantics.specs.declared.fault.TheConstants.{TURN_LIMIT}
 use Rattle.strc_semantics.specs.declared.fault.Cause.{Cause}
-use Rattle.strc_semantics.specs.declared.fault.Cause.TheVariants.{Index, PeekRange, Turns}
+use Rattle.strc_semantics.specs.declared.fault.Cause.TheVariants.{Index, PeekRange, Turns, Calls}
 use Rattle.strc_semantics.specs.declared.word.Word.{Word}
 use Rattle.strc_semantics.specs.declared.body.Body.{Body}
 use Rattle.strc_semantics.specs.Arithmetic.{wrapped, unary_value, binary_value, truth, is_true}
@@ -173,6 +173,7 @@ value_of port tree.Pop store =
 value_of port (tree.Peek index) store =
     result_and_then (value_of port index store) (λ place.
     result_and_then (peeked_from port place.0 place.1.traffic) (λ item. Ok (item, place.1)))
+value_of port (tree.Call name arguments) store = Err Calls
 value_of port (tree.Group inner) store = value_of port inner store
 value_of port (tree.Unary operator operand) store =
     result_and_then (value_of port operand store)
@@ -315,6 +316,7 @@ abbrev mutual
         traffic = printed
             (record { value = given.0; ends_line = true }) given.1.traffic;
       }))
+  stmt_done port (tree.Return value) store = Ok store
 
   -- what statements do, one after another
   pub stmts_done : Port → tree.Stmts → Store → Result Store Cause
@@ -371,6 +373,8 @@ members_started (tree.Fields kind variables ∷ rest) store =
 members_started (tree.Init block ∷ rest) store = members_started rest store
 members_started (tree.Prework rates block ∷ rest) store = members_started rest store
 members_started (tree.Work rates block ∷ rest) store = members_started rest store
+members_started (tree.Helper kind name parameters block ∷ rest) store =
+    members_started rest store
 
 -- the blocks of `init`, each in a scope of its own
 abbrev pub inits_done : List tree.Member → Store → Result Store Cause
@@ -380,6 +384,7 @@ inits_done (tree.Init block ∷ rest) store =
     result_and_then (inside (stmts_done no_io block) store) (inits_done rest)
 inits_done (tree.Prework rates block ∷ rest) store = inits_done rest store
 inits_done (tree.Work rates block ∷ rest) store = inits_done rest store
+inits_done (tree.Helper kind name parameters block ∷ rest) store = inits_done rest store
 
 -- the values of the fields' cells after their initialisers and `init`
 abbrev pub started : Filter → Result (List ℤ) Cause

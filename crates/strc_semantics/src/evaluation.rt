@@ -47,6 +47,7 @@ pub fn constant_value(value: &Expr) -> Result<i32, Cause>
         | Expr::Element(_, _)
         | Expr::Pop
         | Expr::Peek(_)
+        | Expr::Call(_, _)
         | Expr::Step(_, _)
         | Expr::StepElement(_, _, _) => Err(Cause::Index),
     }

@@ -18,6 +18,8 @@ pub enum Cause {
     PeekRange,
     /// The loops of one firing turn too often.
     Turns,
+    /// Too many calls of helper functions are running at once.
+    Calls,
 }
 
 impl fmt::Display for Cause {
@@ -32,6 +34,7 @@ impl fmt::Display for Cause {
             Cause::Index => write!(f, "Index"),
             Cause::PeekRange => write!(f, "PeekRange"),
             Cause::Turns => write!(f, "Turns"),
+            Cause::Calls => write!(f, "Calls"),
         }
     }
 }

@@ -34,6 +34,7 @@ pub fn value(expression: &Expr, store: &mut Store) -> Result<i32, Cause>
             value(index, store)?;
             Err(Cause::PeekRange)
         }
+        Expr::Call(_, _) => Err(Cause::Calls),
         Expr::Group(inner) => value(inner, store),
         Expr::Unary(operator, operand) => {
             let operand = value(operand, store)?;

@@ -5,10 +5,12 @@ use Rattle.std.proofs.Math.Seq.{drop-cons}
 use Rattle.strc_syntax.specs.Tree as tree
 use Rattle.strc_syntax.specs.View.{stmt_view, block_view, rate_view, member_view}
 use Rattle.strc_syntax.specs.declared.tree.RateTree.{RateTree}
+use Rattle.strc_syntax.specs.declared.tree.HelperType.{HelperType}
+use Rattle.strc_base.specs.declared.name.Name.{Name}
 use Rattle.strc_syntax.specs.declared.tree.Stmt.{Stmt, Block}
-use Rattle.strc_syntax.specs.declared.tree.Member.{Init, Prework, Work}
+use Rattle.strc_syntax.specs.declared.tree.Member.{Init, Prework, Work, Helper}
 use Rattle.strc_syntax.proofs.Views.{row_of_views, stmt_view_block, member_view_init}
-use Rattle.strc_syntax.proofs.Views.{member_view_prework, member_view_work}
+use Rattle.strc_syntax.proofs.Views.{member_view_prework, member_view_work, member_view_helper}
 
 -- a block holds the statements of its list
 pub stmt_view-Block : (body : Vec Stmt Global)
@@ -31,6 +33,12 @@ pub member_view-Work : (rates : Vec RateTree Global) (block : Vec Stmt Global)
     (block_view block.items)
 member_view-Work rates block = member_view_work rates block
     ∙ ap (tree.Work (map rate_view rates.items)) (sym (row_of_views block.items))
+
+pub member_view-Helper : (kind : HelperType) (name : Name) (parameters : Vec Name Global)
+    (block : Vec Stmt Global) → member_view (Helper kind name parameters block)
+    ≡ tree.Helper kind name parameters.items (block_view block.items)
+member_view-Helper kind name parameters block = member_view_helper kind name parameters block
+    ∙ ap (tree.Helper kind name parameters.items) (sym (row_of_views block.items))
 
 -- the first of the statements that are left, and the others
 pub block_view-drop : (items : List Stmt) (i : ℕ) (x : Stmt) → i < length items

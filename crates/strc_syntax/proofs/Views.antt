@@ -1,14 +1,16 @@
 -- The views of statements and members in a row, whichever way the row is kept.
-use Rattle.std.proofs.Common.{◌≡◌, Bool, List, [], ◌∷◌, map, Option, refl, sym, ap, ◌∙◌}
+use Rattle.std.proofs.Common.{◌≡◌, List, [], ◌∷◌, map, Option, refl, ap, ◌∙◌}
 use Rattle.std.specs.Global.{Vec}
 use mathlib.Core.Former.{Count}
 use Rattle.strc_syntax.specs.declared.tree.StreamType.{StreamType}
 use Rattle.strc_syntax.specs.declared.tree.CompositeKind.{CompositeKind}
 use Rattle.strc_syntax.specs.declared.tree.RateTree.{RateTree}
+use Rattle.strc_syntax.specs.declared.tree.HelperType.{HelperType}
+use Rattle.strc_base.specs.declared.name.Name.{Name}
 use Rattle.strc_syntax.specs.declared.tree.Stmt.{Stmt, Block, Block', Row_of-Stmt, end_of-Stmt}
 use Rattle.strc_syntax.specs.declared.tree.Stmt.{more_of-Stmt, items-the_row-Stmt}
 use Rattle.strc_syntax.specs.declared.tree.Stmt.{items_hidden-the_row-Stmt-1}
-use Rattle.strc_syntax.specs.declared.tree.Member.{Member, Init, Prework, Work}
+use Rattle.strc_syntax.specs.declared.tree.Member.{Member, Init, Prework, Work, Helper}
 use Rattle.strc_syntax.specs.declared.tree.Child.{Child, Filter, Filter', Composite, Row_of-Member}
 use Rattle.strc_syntax.specs.declared.tree.Child.{end_of-Member, more_of-Member}
 use Rattle.strc_syntax.specs.declared.tree.Child.{items-the_row-Member}
@@ -56,6 +58,12 @@ pub member_view_work : (rates : Vec RateTree) (body : Vec Stmt)
     → member_view (Work rates body) ≡ tree.Work (map rate_view rates.items)
     (row (map stmt_view body.items))
 member_view_work rates body = ap (tree.Work (map rate_view rates.items)) (row_view_kept body)
+
+pub member_view_helper : (kind : HelperType) (name : Name) (parameters : Vec Name) (body : Vec Stmt)
+    → member_view (Helper kind name parameters body)
+    ≡ tree.Helper kind name parameters.items (row (map stmt_view body.items))
+member_view_helper kind name parameters body =
+    ap (tree.Helper kind name parameters.items) (row_view_kept body)
 
 pub child_view_composite : (types : Option StreamType) (kind : CompositeKind) (body : Vec Stmt)
     → child_view (Composite types kind body)

@@ -6,25 +6,32 @@ use Rattle.strc_syntax.specs.declared.tree.CompositeKind.{CompositeKind}
 use Rattle.strc_syntax.specs.declared.tree.Role.{Role}
 use Rattle.strc_syntax.specs.declared.tree.Brackets.{Brackets}
 use Rattle.strc_syntax.specs.declared.tree.RateKind.{RateKind}
+use Rattle.strc_syntax.specs.declared.tree.HelperType.{HelperType}
 use Rattle.strc_syntax.specs.declared.tree.AssignOperator.{AssignOperator}
 use Rattle.strc_syntax.specs.declared.tree.UnaryOperator.{UnaryOperator}
 use Rattle.strc_syntax.specs.declared.tree.StepOperator.{StepOperator}
 use Rattle.strc_syntax.specs.declared.tree.BinaryOperator.{BinaryOperator}
 
--- an expression; a name is the list of its bytes
-pub data Expr : Type 0 where
-  Number : (value : ℤ) → Expr
-  Truth : (value : Bool) → Expr
-  Read : (name : List ℕ) → Expr
-  Element : (name : List ℕ) (index : Expr) → Expr
-  Pop : Expr
-  Peek : (index : Expr) → Expr
-  Group : (inner : Expr) → Expr
-  Unary : (operator : UnaryOperator) (operand : Expr) → Expr
-  Step : (operator : StepOperator) (name : List ℕ) → Expr
-  StepElement : (operator : StepOperator) (name : List ℕ) (index : Expr) → Expr
-  Binary : (operator : BinaryOperator) (left right : Expr) → Expr
-  Conditional : (condition chosen other : Expr) → Expr
+-- an expression, and the arguments of a call in a row; a name is the list of its bytes
+mutual
+  pub data Expr : Type 0 where
+    Number : (value : ℤ) → Expr
+    Truth : (value : Bool) → Expr
+    Read : (name : List ℕ) → Expr
+    Element : (name : List ℕ) (index : Expr) → Expr
+    Pop : Expr
+    Peek : (index : Expr) → Expr
+    Call : (name : List ℕ) (arguments : Arguments) → Expr
+    Group : (inner : Expr) → Expr
+    Unary : (operator : UnaryOperator) (operand : Expr) → Expr
+    Step : (operator : StepOperator) (name : List ℕ) → Expr
+    StepElement : (operator : StepOperator) (name : List ℕ) (index : Expr) → Expr
+    Binary : (operator : BinaryOperator) (left right : Expr) → Expr
+    Conditional : (condition chosen other : Expr) → Expr
+
+  pub data Arguments : Type 0 where
+    NoArgument : Arguments
+    Argument : (first : Expr) (rest : Arguments) → Arguments
 
 -- the type of variables, as it is written
 pub data VariableType : Type 0 where
@@ -64,6 +71,7 @@ mutual
     Push : (value : Expr) → Stmt
     Print : (value : Expr) → Stmt
     Println : (value : Expr) → Stmt
+    Return : (value : Option Expr) → Stmt
     Compose : (statement : Composition) → Stmt
 
   pub data Stmts : Type 0 where
@@ -89,6 +97,8 @@ mutual
     Init : (block : Stmts) → Member
     Prework : (rates : List Rate) (block : Stmts) → Member
     Work : (rates : List Rate) (block : Stmts) → Member
+    Helper : (kind : HelperType) (name : List ℕ) (parameters : List (List ℕ)) (block : Stmts)
+        → Member
 
   pub data Members : Type 0 where
     NoMember : Members
@@ -104,6 +114,11 @@ pub record Declaration : Type 0 where
   pub name : List ℕ
   pub parameters : Option (List (List ℕ))
   pub stream : Stream
+
+-- arguments in a row, from a list of them
+abbrev pub arguments_of : List Expr → Arguments
+arguments_of [] = NoArgument
+arguments_of (e ∷ others) = Argument e (arguments_of others)
 
 -- statements in a row, from a list of them
 abbrev pub row : List Stmt → Stmts

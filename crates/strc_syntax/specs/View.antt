@@ -2,7 +2,7 @@
 use Rattle.std.specs.Prelude.{List, [], ◌∷◌, Option, map}
 use Rattle.std.specs.Option.{option_map}
 use Rattle.strc_syntax.specs.Tree as tree
-use Rattle.strc_syntax.specs.declared.tree.Expr.{Expr}
+use Rattle.strc_syntax.specs.declared.tree.Expr.{Expr, Row_of-Expr, end_of-Expr, more_of-Expr}
 use Rattle.strc_syntax.specs.declared.tree.Expr.TheVariants as expr
 use Rattle.strc_syntax.specs.declared.tree.Stmt.{Stmt, Row_of-Stmt, end_of-Stmt, more_of-Stmt}
 use Rattle.strc_syntax.specs.declared.tree.Stmt.TheVariants as stmt
@@ -26,22 +26,34 @@ use Rattle.strc_syntax.specs.declared.tree.StreamTree.TheVariants as stream
 use Rattle.strc_syntax.specs.declared.tree.Decl.{Decl}
 use Rattle.strc_syntax.specs.declared.tree.Program.{Program}
 
-abbrev pub expr_view : Expr → tree.Expr
-expr_view (expr.Number value) = tree.Number value
-expr_view (expr.Truth value) = tree.Truth value
-expr_view (expr.Read name) = tree.Read name
-expr_view (expr.Element' name at index) = tree.Element name (expr_view index)
-expr_view expr.Pop = tree.Pop
-expr_view (expr.Peek' at index) = tree.Peek (expr_view index)
-expr_view (expr.Group' at inner) = tree.Group (expr_view inner)
-expr_view (expr.Unary' operator at operand) = tree.Unary operator (expr_view operand)
-expr_view (expr.Step operator name) = tree.Step operator name
-expr_view (expr.StepElement' operator name at index) =
-    tree.StepElement operator name (expr_view index)
-expr_view (expr.Binary' operator at left at' right) =
-    tree.Binary operator (expr_view left) (expr_view right)
-expr_view (expr.Conditional' at condition at' chosen at'' other) =
-    tree.Conditional (expr_view condition) (expr_view chosen) (expr_view other)
+abbrev mutual
+  pub expr_view : Expr → tree.Expr
+  expr_view (expr.Number value) = tree.Number value
+  expr_view (expr.Truth value) = tree.Truth value
+  expr_view (expr.Read name) = tree.Read name
+  expr_view (expr.Element' name at index) = tree.Element name (expr_view index)
+  expr_view expr.Pop = tree.Pop
+  expr_view (expr.Peek' at index) = tree.Peek (expr_view index)
+  expr_view (expr.Call' name shape arguments) = tree.Call name (arguments_view arguments)
+  expr_view (expr.Group' at inner) = tree.Group (expr_view inner)
+  expr_view (expr.Unary' operator at operand) = tree.Unary operator (expr_view operand)
+  expr_view (expr.Step operator name) = tree.Step operator name
+  expr_view (expr.StepElement' operator name at index) =
+      tree.StepElement operator name (expr_view index)
+  expr_view (expr.Binary' operator at left at' right) =
+      tree.Binary operator (expr_view left) (expr_view right)
+  expr_view (expr.Conditional' at condition at' chosen at'' other) =
+      tree.Conditional (expr_view condition) (expr_view chosen) (expr_view other)
+
+  pub arguments_view : {m : _} → Row_of-Expr m → tree.Arguments
+  arguments_view end_of-Expr = tree.NoArgument
+  arguments_view (more_of-Expr first rest) =
+      tree.Argument (expr_view first) (arguments_view rest)
+
+-- the arguments of a call
+abbrev pub listed_view : List Expr → tree.Arguments
+listed_view [] = tree.NoArgument
+listed_view (first ∷ rest) = tree.Argument (expr_view first) (listed_view rest)
 
 abbrev pub type_view : VariableType → tree.VariableType
 type_view kind.Boolean = tree.Boolean
@@ -84,6 +96,7 @@ abbrev mutual
   stmt_view (stmt.Push value) = tree.Push (expr_view value)
   stmt_view (stmt.Print value) = tree.Print (expr_view value)
   stmt_view (stmt.Println value) = tree.Println (expr_view value)
+  stmt_view (stmt.Return value) = tree.Return (option_map expr_view value)
   stmt_view (stmt.Compose statement) = tree.Compose (composition_view statement)
   stmt_view (stmt.Placed' place at statement) = stmt_view statement
 
@@ -114,6 +127,8 @@ abbrev mutual
       tree.Prework (map rate_view rates.items) (row_view block)
   member_view (member.Work' rates shape block) =
       tree.Work (map rate_view rates.items) (row_view block)
+  member_view (member.Helper' kind name parameters shape block) =
+      tree.Helper kind name parameters.items (row_view block)
 
   pub members_view : {m : _} → Row_of-Member m → tree.Members
   members_view end_of-Member = tree.NoMember

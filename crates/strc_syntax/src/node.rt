@@ -4,12 +4,12 @@ ghost use Rattle.std.specs.Prelude.{◌≡◌, IfOk, map};
 ghost use Rattle.std.specs.Box.{box_value};
 ghost use Rattle.std.specs.Option.{option_map};
 ghost use Rattle.strc_syntax.specs.View.{expr_view, stmt_view, rate_view, member_view, child_view};
-ghost use Rattle.strc_syntax.specs.Tree.{row, chain};
+ghost use Rattle.strc_syntax.specs.Tree.{row, chain, arguments_of};
 ghost use Rattle.strc_syntax.specs.Tree as tree;
 
 use crate::tree::{
-    BinaryOperator, Child, CompositeKind, Expr, Member, RateTree, StepOperator, Stmt, StreamType,
-    UnaryOperator,
+    BinaryOperator, Child, CompositeKind, Expr, HelperType, Member, RateTree, StepOperator, Stmt,
+    StreamType, UnaryOperator,
 };
 use std::alloc::{AllocError, Global};
 use strc_base::name::Name;
@@ -45,6 +45,12 @@ pub fn peek_of(alloc: Global, index: Expr) -> Result<Expr, AllocError>
     ensures { IfOk result (λ e. expr_view e ≡ tree.Peek (expr_view index)) }
 {
     Ok(Expr::Peek(Box::new(alloc, index)?))
+}
+
+pub fn call_of(name: Name, arguments: Vec<Expr>) -> Expr
+    ensures { expr_view result ≡ tree.Call name (arguments_of (map expr_view arguments.items)) }
+{
+    Expr::Call(name, arguments)
 }
 
 pub fn group_of(alloc: Global, inner: Expr) -> Result<Expr, AllocError>
@@ -197,6 +203,13 @@ pub fn work_of(rates: Vec<RateTree>, block: Vec<Stmt>) -> Member
         (row (map stmt_view block.items)) }
 {
     Member::Work(rates, block)
+}
+
+pub fn helper_of(kind: HelperType, name: Name, parameters: Vec<Name>, block: Vec<Stmt>) -> Member
+    ensures { member_view result ≡ tree.Helper kind name parameters.items
+        (row (map stmt_view block.items)) }
+{
+    Member::Helper(kind, name, parameters, block)
 }
 
 /// A filter without a name.

@@ -47,6 +47,19 @@ pub enum Member {
     Prework(Vec<RateTree>, Vec<Stmt>),
     /// `work push 1 { .. }`
     Work(Vec<RateTree>, Vec<Stmt>),
+    /// `int f(int n) { .. }`: a helper function, with the names of its parameters and its block
+    Helper(HelperType, Name, Vec<Name>, Vec<Stmt>),
+}
+
+/// What a call of a helper function gives.
+#[derive(Clone, Copy)]
+pub enum HelperType {
+    /// `int`
+    Int,
+    /// `boolean`
+    Boolean,
+    /// `void`: nothing
+    Void,
 }
 
 /// A rate as it is written: `push 1`.
@@ -142,6 +155,8 @@ pub enum Stmt {
     Print(Expr),
     /// `println(x);`
     Println(Expr),
+    /// `return;` or `return x;`
+    Return(Option<Expr>),
     /// A statement of a composite stream: `add A;`
     Compose(Composition),
     /// A statement and where it is written. Contracts see the statement alone.
@@ -205,6 +220,7 @@ pub enum Splitter {
 }
 
 /// An expression.
+#[cycle(expression)]
 pub enum Expr {
     /// 0 to 2147483647, or the minimum, for which 2147483648 is written.
     Number(i32),
@@ -218,6 +234,8 @@ pub enum Expr {
     Pop,
     /// `peek(i)`
     Peek(Box<Expr>),
+    /// `f(a, b)`: a call of a helper function
+    Call(Name, Vec<Expr>),
     /// `(e)`
     Group(Box<Expr>),
     /// `-e`
@@ -365,7 +383,11 @@ impl Drop for Member {
     #[cycle(drops)]
     fn drop(self) {
         match self {
-            Member::Fields(_) | Member::Init(_) | Member::Prework(_, _) | Member::Work(_, _) => {}
+            Member::Fields(_)
+            | Member::Init(_)
+            | Member::Prework(_, _)
+            | Member::Work(_, _)
+            | Member::Helper(_, _, _, _) => {}
         }
     }
 }
@@ -424,6 +446,7 @@ impl Drop for Stmt {
             | Stmt::Push(_)
             | Stmt::Print(_)
             | Stmt::Println(_)
+            | Stmt::Return(_)
             | Stmt::Compose(_)
             | Stmt::Placed(_, _) => {}
         }
@@ -465,6 +488,7 @@ impl Drop for Splitter {
 }
 
 impl Drop for Expr {
+    #[cycle(expression_drops)]
     fn drop(self) {
         match self {
             Expr::Number(_)
@@ -473,6 +497,7 @@ impl Drop for Expr {
             | Expr::Element(_, _)
             | Expr::Pop
             | Expr::Peek(_)
+            | Expr::Call(_, _)
             | Expr::Group(_)
             | Expr::Unary(_, _)
             | Expr::Step(_, _)

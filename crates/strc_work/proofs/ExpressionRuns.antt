@@ -641,6 +641,8 @@ expr_runs port (tree.Element name index) names into free store slots closed read
     room
 expr_runs port (tree.Peek index) names into free store slots closed ready room =
     peek_runs port index (expr_runs port index) names into free store slots closed ready room
+expr_runs port (tree.Call name arguments) names into free store slots closed ready room =
+    absurd closed
 expr_runs port (tree.StepElement operator name index) names into free store slots closed ready room
     =
     step_element_runs port operator name index

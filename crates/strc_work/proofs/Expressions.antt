@@ -260,6 +260,8 @@ variable_runs port (tree.Truth value) names free slot store slots is closed read
 variable_runs port (tree.Element name index) names free slot store slots is closed ready =
     absurd (cc)
 variable_runs port (tree.Peek index) names free slot store slots is closed ready = absurd (cc)
+variable_runs port (tree.Call name arguments) names free slot store slots is closed ready =
+    absurd (cc)
 variable_runs port (tree.StepElement operator name index) names free slot store slots is closed
     ready = absurd (cc)
 variable_runs port (tree.Conditional condition chosen other) names free slot store slots is closed
@@ -380,6 +382,7 @@ keeps port (tree.Element name index) none store =
     element_keeps store.variables name (value_of port index store) (keeps port index none store)
 keeps port (tree.Peek index) none store =
     peek_keeps port store.variables (value_of port index store) (keeps port index none store)
+keeps port (tree.Call name arguments) none store = absurd (false≢true none)
 keeps port (tree.StepElement operator name index) none store = absurd (false≢true none)
 keeps port (tree.Conditional condition chosen other) none store =
     let both = both_true (writes_no_variable condition)
@@ -471,6 +474,7 @@ expr_room names (tree.Element name index) into free closed =
           (expr_nodes names index free (free + 1))) last,
     )
 expr_room names tree.Pop into free closed = omega arith
+expr_room names (tree.Call name arguments) into free closed = absurd closed
 expr_room names (tree.Peek index) into free closed =
     let slot = unwrap_or (variable_slot names index) free in
     omega (

@@ -104,6 +104,8 @@ members_run (tree.Prework rates block ∷ rest) names store slots closed ready r
     members_run rest names store slots closed.1 ready room
 members_run (tree.Work rates block ∷ rest) names store slots closed ready room =
     members_run rest names store slots closed.1 ready room
+members_run (tree.Helper kind name parameters block ∷ rest) names store slots closed ready room =
+    members_run rest names store slots closed.1 ready room
 
 -- ---- blocks of `init`
 
@@ -137,6 +139,8 @@ inits_run (tree.Prework rates block ∷ rest) names store slots closed ready roo
     inits_run rest names store slots closed.1 ready room
 inits_run (tree.Work rates block ∷ rest) names store slots closed ready room =
     inits_run rest names store slots closed.1 ready room
+inits_run (tree.Helper kind name parameters block ∷ rest) names store slots closed ready room =
+    inits_run rest names store slots closed.1 ready room
 
 -- ---- fields and slots
 
@@ -164,6 +168,8 @@ members_cells names (tree.Fields kind variables ∷ rest) closed =
 members_cells names (tree.Init block ∷ rest) closed = members_cells names rest closed.1
 members_cells names (tree.Prework rates block ∷ rest) closed = members_cells names rest closed.1
 members_cells names (tree.Work rates block ∷ rest) closed = members_cells names rest closed.1
+members_cells names (tree.Helper kind name parameters block ∷ rest) closed =
+    members_cells names rest closed.1
 
 scope_of-bound_onto : (variables : Variables) (fields : Scope) (values : List ℤ)
     → total fields ≤ length values → scope_of (bound_onto variables fields values) ≡ reverse fields

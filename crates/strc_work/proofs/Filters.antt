@@ -251,6 +251,7 @@ member_gives constants input output fields before (tree.Work rates block) =
     (λ (m' : tree.Member). IsWorkBody constants input output fields work)
     (work_resolved constants input output fields work) (λ w. Ok (tree.Work w.rates w.block))
     (work_gives constants input output fields work) (λ w h. h)
+member_gives constants input output fields before (tree.Helper kind name parameters block) = tt
 
 member_ok : (constants : List (List ℕ × ℤ)) (input output : ItemType) (fields : TypedNames)
     (before : List (List ℕ)) (m : tree.Member)
@@ -279,6 +280,8 @@ member_ok constants input output fields before (tree.Work rates block) h =
     any_ok (work_resolved constants input output fields work)
     (λ w. Ok (tree.Work w.rates w.block)) (work_ok constants input output fields work h)
     (λ w. refl)
+member_ok constants input output fields before (tree.Helper kind name parameters block) h =
+    absurd h
 
 members_give : (constants : List (List ℕ × ℤ)) (input output : ItemType) (fields : TypedNames)
     (before : List (List ℕ)) (ms : List tree.Member)

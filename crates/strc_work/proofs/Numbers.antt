@@ -197,6 +197,7 @@ module _ (constants : List (List ℕ × ℤ)) where
   expr_means names (tree.Peek index) =
       any_gives (TypedMeansAs (tree.Peek index))
       (expr_resolved (rate_context constants) names index) (λ i. peek_typed false i) (λ i. tt)
+  expr_means names (tree.Call name arguments) = tt
   expr_means names (tree.Group inner) =
       then_gives (TypedMeansAs inner) (TypedMeansAs (tree.Group inner))
       (expr_resolved (rate_context constants) names inner) (λ i. Ok (group_typed i))

@@ -162,6 +162,7 @@ expr_silent names (tree.Peek index) into free =
     let a = expr_nodes names index free (free + 1) in
     silent-before (unless_there o a) (one (act.Peek into (unwrap_or o free)))
     (unless_there_silent o a (expr_silent names index free (free + 1)))
+expr_silent names (tree.Call name arguments) into free = refl
 expr_silent names (tree.Group inner) into free = expr_silent names inner into free
 expr_silent names (tree.Unary operator operand) into free =
     let o = variable_slot names operand in
@@ -236,6 +237,7 @@ evaluation_silent names (tree.Element name index) =
     expr_silent names (tree.Element name index) (total names) (total names + 1)
 evaluation_silent names (tree.Peek index) =
     expr_silent names (tree.Peek index) (total names) (total names + 1)
+evaluation_silent names (tree.Call name arguments) = refl
 evaluation_silent names (tree.StepElement operator name index) =
     expr_silent names (tree.StepElement operator name index) (total names) (total names + 1)
 evaluation_silent names (tree.Conditional condition chosen other) =
@@ -349,6 +351,7 @@ mutual
   stmt_print names (tree.Push value) closed = used_print names value act.Push
   stmt_print names (tree.Print value) closed = used_print names value act.Print
   stmt_print names (tree.Println value) closed = used_print names value act.Println
+  stmt_print names (tree.Return value) closed = refl
 
   stmts_print_is : (names : Scope) (b : tree.Stmts) → AreClosed names b
       → nodes_print (stmts_nodes names b) ≡ stmts_print b

@@ -244,6 +244,8 @@ mutual
       evaluation_runs port (tree.Element name index) names store slots closed ready room
   stmt_runs port (tree.Evaluate (tree.Peek index)) names store slots closed ready room =
       evaluation_runs port (tree.Peek index) names store slots closed ready room
+  stmt_runs port (tree.Evaluate (tree.Call name arguments)) names store slots closed ready room =
+      absurd closed
   stmt_runs port (tree.Evaluate (tree.StepElement operator name index)) names store slots closed
       ready room =
       evaluation_runs port (tree.StepElement operator name index) names store slots closed ready
@@ -326,6 +328,7 @@ mutual
       })) names store slots
       closed ready room (λ given m in_slot. printed_reaches names slots false
       (operand_slot names true value (total names)) given m ready.roomy in_slot)
+  stmt_runs port (tree.Return value) names store slots closed ready room = absurd closed
   stmt_runs port (tree.Println value) names store slots closed ready room =
       used_runs port value act.Println (λ given. Ok
       (record given.1 {

@@ -411,6 +411,7 @@ mutual
       number_given context names context.prints value tree.Print
   stmt_gives context names outer (tree.Println value) =
       number_given context names context.prints value tree.Println
+  stmt_gives context names outer (tree.Return value) = tt
 
   pub stmts_give : (context : Context) (names : TypedNames) (outer : ℕ) (block : tree.Stmts)
       → Gives (λ (b : tree.Stmts). AreWellFormed context names outer block)
@@ -499,6 +500,7 @@ mutual
       number_given_ok context names context.prints value tree.Print h.0 h.1
   stmt_ok context names outer (tree.Println value) h =
       number_given_ok context names context.prints value tree.Println h.0 h.1
+  stmt_ok context names outer (tree.Return value) h = absurd h
 
   pub stmts_ok : (context : Context) (names : TypedNames) (outer : ℕ) (block : tree.Stmts)
       → AreWellFormed context names outer block → IsOk (stmts_resolved context names outer block)

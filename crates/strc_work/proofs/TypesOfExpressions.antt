@@ -63,6 +63,7 @@ no_array context names (tree.Read name) h = name_no_array context names name h
 no_array context names (tree.Element name index) h = let e : Array ≡ Int = h.2 in cc
 no_array context names tree.Pop h = let e : Array ≡ Int = h.1 in cc
 no_array context names (tree.Peek index) h = let e : Array ≡ Int = h.2 in cc
+no_array context names (tree.Call name arguments) h = absurd h
 no_array context names (tree.Group inner) h = no_array context names inner h
 no_array context names (tree.Unary operator operand) h = unary_no_array operator h.1
 no_array context names (tree.Step operator name) h = let e : Array ≡ Int = h.1 in cc
@@ -293,6 +294,7 @@ expr_gives context names (tree.Peek index) =
     kept_gives Q context.pops (result_and_then (expect_type Int i)
     (λ i'. Ok (record { kind = Int; value = tree.Peek i' })))
     (λ pops. index_gives H (context.pops ≡ true) i tree.Peek pops h))
+expr_gives context names (tree.Call name arguments) = tt
 expr_gives context names (tree.Group inner) =
     let H : Typed → Type 0 = λ t. HasType context names inner t.kind in
     then_gives H H (expr_resolved context names inner) (λ i. Ok (group_typed i))
@@ -378,6 +380,7 @@ expr_accepts context names (tree.Peek index) kind h =
           (λ i. peek_typed context.pops i) (record { kind = Int; value = at.0 }) at.1
           ∙ kept_is context.pops (Ok (record { kind = Int; value = tree.Peek at.0 })) h.0,
     )
+expr_accepts context names (tree.Call name arguments) kind h = absurd h
 expr_accepts context names (tree.Group inner) kind h =
     let at = expr_accepts context names inner kind h in (
       tree.Group at.0,

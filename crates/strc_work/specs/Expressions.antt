@@ -39,6 +39,7 @@ HasType context names (tree.Element name index) kind =
 HasType context names tree.Pop kind = IsTrue context.pops × (kind ≡ Int)
 HasType context names (tree.Peek index) kind =
     IsTrue context.pops × HasType context names index Int × (kind ≡ Int)
+HasType context names (tree.Call name arguments) kind = ⊥
 HasType context names (tree.Group inner) kind = HasType context names inner kind
 HasType context names (tree.Unary operator operand) kind =
     HasType context names operand (operand_type operator) × (kind ≡ operand_type operator)

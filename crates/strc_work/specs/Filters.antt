@@ -49,6 +49,8 @@ IsWellFormedMember constants input output fields before (tree.Prework rates bloc
 IsWellFormedMember constants input output fields before (tree.Work rates block) =
     AreRates constants fields input output rates
     × AreWellFormed (body_context constants input output) fields (length fields) block
+IsWellFormedMember constants input output fields before (tree.Helper kind name parameters block) =
+    ⊥
 
 abbrev pub AreWellFormedMembers : (constants : List (List ℕ × ℤ)) (input output : ItemType)
     (fields : TypedNames) (before : List (List ℕ)) → List tree.Member → Type 0

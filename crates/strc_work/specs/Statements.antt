@@ -79,6 +79,7 @@ abbrev mutual
       IsTrue context.prints × HasType context names value Int
   IsWellFormed context names outer (tree.Println value) =
       IsTrue context.prints × HasType context names value Int
+  IsWellFormed context names outer (tree.Return value) = ⊥
 
   -- the statements of a block, each among the names that are declared before it
   pub AreWellFormed : Context → TypedNames → (outer : ℕ) → tree.Stmts → Type 0

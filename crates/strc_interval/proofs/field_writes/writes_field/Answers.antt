@@ -1,4 +1,4 @@
-use Rattle.std.proofs.Common.{◌≡◌, ◌∙◌, ap, sym, subst, Bool, IfOk, []}
+use Rattle.std.proofs.Common.{◌≡◌, ◌∙◌, ap, subst, Bool, IfOk, []}
 use Rattle.strc_syntax.specs.View.{block_view}
 use Rattle.strc_semantics.specs.Filters.{field_names, members_of}
 use Rattle.strc_interval.specs.Stateless.{write_one_of}

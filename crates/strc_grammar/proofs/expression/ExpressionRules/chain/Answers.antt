@@ -4,8 +4,8 @@ use Rattle.strc_grammar.specs.Grammar.{kinds}
 use Rattle.strc_grammar.specs.Reading.{expression, operator}
 use Rattle.strc_syntax.specs.Tree as tree
 use Rattle.std.proofs.lemmas.Result.{err_from_is_err_and}
-use Rattle.strc_grammar.proofs.Loops.{chains_on, chain_fails, chain_rises}
-use Rattle.strc_grammar.proofs.Loops.{expression_within, past_operator}
+use Rattle.strc_grammar.proofs.Loops.{chains_on, chain_fails, chain_rises, expression_within}
+use Rattle.strc_grammar.proofs.Loops.{past_operator}
 use Rattle.strc_grammar.proofs.expression.ExpressionRules.chain.Goals as goal
 
 pub loop-operator-init : goal.loop-operator-init
