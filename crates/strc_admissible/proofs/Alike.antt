@@ -14,7 +14,7 @@ use Rattle.strc_semantics.specs.Filters.{work_rates, body_block, body_rates}
 use Rattle.strc_semantics.specs.Filters.{push_rate, pop_rate, item_count, window_size}
 use Rattle.strc_semantics.specs.Scoping.{total}
 use Rattle.strc_semantics.specs.Firing.{Fired, fired, started, stmts_done, store_at, block_left}
-use Rattle.strc_semantics.specs.Firing.{field_values, port_at_rates}
+use Rattle.strc_semantics.specs.Firing.{field_values, port_at_rates, setting_at}
 use Rattle.strc_rate.proofs.Results.{then_ok, both_ok}
 use Rattle.strc_rate.specs.Kept.{run_of, KeepsRates}
 use Rattle.strc_rate.proofs.KeptRates.{rates_kept}
@@ -72,7 +72,8 @@ module _ (filter : Filter) (stateless : is_stateless filter ≡ true) where
   -- a firing by its rates and its block
   abbrev fired_by : List tree.Rate → tree.Stmts → (fields window : List ℤ) → Result Fired Cause
   fired_by rates block fields window =
-      result_and_then (stmts_done (port_at_rates rates window) block (store_at filter fields))
+      result_and_then (stmts_done (setting_at filter.members (port_at_rates rates window)) block
+      (store_at filter fields))
       (λ store.
       let left = block_left (store_at filter fields) store in
       Ok (record {

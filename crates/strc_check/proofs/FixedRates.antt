@@ -4,16 +4,16 @@ use Rattle.strc_base.specs.Results.{result_and_then}
 use Rattle.strc_syntax.specs.Tree as tree
 use Rattle.strc_syntax.specs.declared.tree.UnaryOperator.{UnaryOperator}
 use Rattle.strc_syntax.specs.declared.tree.BinaryOperator.{BinaryOperator}
-use Rattle.strc_check.specs.declared.types.ValueType.{ValueType}
-use Rattle.strc_check.specs.declared.types.ValueType.TheVariants.{Boolean}
+use Rattle.strc_semantics.specs.declared.types.ValueType.{ValueType}
+use Rattle.strc_semantics.specs.declared.types.ValueType.TheVariants.{Boolean}
 use Rattle.strc_base.specs.Names.{value_named}
-use Rattle.strc_check.specs.Typing.{TypedNames, same_type}
+use Rattle.strc_semantics.specs.Typing.{TypedNames, same_type}
 use Rattle.strc_semantics.specs.Constants.{IsConstant}
 use Rattle.strc_check.specs.Resolution.{Typed, expect_type, read_as, constant_read, operand_type}
 use Rattle.strc_check.specs.Resolution.{sides_type, binary_type, unary_typed, binary_typed}
 use Rattle.strc_check.specs.Resolution.{conditional_typed, peek_typed, group_typed, expr_resolved}
 use Rattle.strc_check.specs.Resolution.{expr_as, rate_context}
-use Rattle.strc_check.proofs.ResolvingStatements.{Gives, then_gives, any_gives, kept_gives}
+use Rattle.strc_check.proofs.ResolvingExpressions.{Gives, then_gives, any_gives, kept_gives}
 
 -- a typed expression is constant
 abbrev IsConstantTyped : Typed → Type 0

@@ -1,6 +1,10 @@
 pub mod TypedGrowth
 pub mod Members
 pub mod Resolved
+pub mod ResolvingExpressions
 pub mod ResolvingStatements
 pub mod Resolving
 pub mod FixedRates
+pub mod Calls
+pub mod AcceptedHelpers
+pub mod KnownHelpers

@@ -1,14 +1,20 @@
 -- The judgement of a block or of members, from what is judged so far and what is left.
 use Rattle.std.proofs.Common.{◌≡◌, ℕ, List, [], ◌∷◌, ◌++◌, map, Result, Ok, Err, refl, sym, ap}
-use Rattle.std.proofs.Common.{◌∙◌, ◌⊎◌, inl, inr, subst}
+use Rattle.std.proofs.Common.{◌∙◌, ◌⊎◌, inl, inr, subst, suc, length, drop, get_or, ◌<◌, ◌+◌}
+use Rattle.std.proofs.Common.{add-one}
+use Rattle.std.proofs.Math.Seq.{drop-cons}
+use Rattle.strc_semantics.specs.declared.types.ValueType.TheVariants.{Int}
+use Rattle.strc_check.specs.Signatures.{argument_count}
+use Rattle.std.proofs.lemmas.List.{append_assoc}
 use Rattle.strc_base.specs.Results.{result_and_then}
 use Rattle.strc_syntax.specs.Tree as tree
-use Rattle.strc_syntax.specs.View.{stmt_view, block_view}
+use Rattle.strc_syntax.specs.View.{expr_view, listed_view, stmt_view, block_view}
+use Rattle.strc_syntax.specs.declared.tree.Expr.{Expr}
 use Rattle.strc_syntax.specs.declared.tree.Stmt.{Stmt}
 use Rattle.strc_check.specs.declared.error.LowerError.{LowerError}
 use Rattle.strc_check.specs.declared.error.LowerErrorKind.TheVariants as refused
 use Rattle.strc_check.specs.Resolution as judged
-use Rattle.strc_check.specs.Typing.{TypedNames, names_after}
+use Rattle.strc_semantics.specs.Typing.{TypedNames, names_after}
 use Rattle.strc_check.specs.Verdicts.{IsRefusal, IsVerdict}
 
 -- the statements of a list before others
@@ -43,12 +49,54 @@ pub block_after_more : (resolved : List Stmt) (last : Stmt) (left : Result tree.
 block_after_more resolved last (Ok rest) = ap Ok (block_onto-push resolved last rest)
 block_after_more resolved last (Err refusal) = refl
 
+-- the arguments of a list before others
+abbrev pub arguments_onto : List Expr → tree.Arguments → tree.Arguments
+arguments_onto [] rest = rest
+arguments_onto (first ∷ others) rest = tree.Argument (expr_view first) (arguments_onto others rest)
+
+pub arguments_onto-none : (arguments : List Expr)
+    → arguments_onto arguments tree.NoArgument ≡ listed_view arguments
+arguments_onto-none [] = refl
+arguments_onto-none (first ∷ rest) =
+    ap (tree.Argument (expr_view first)) (arguments_onto-none rest)
+
+arguments_onto-push : (arguments : List Expr) (last : Expr) (rest : tree.Arguments)
+    → arguments_onto (arguments ++ last ∷ []) rest
+    ≡ arguments_onto arguments (tree.Argument (expr_view last) rest)
+arguments_onto-push [] last rest = refl
+arguments_onto-push (first ∷ others) last rest =
+    ap (tree.Argument (expr_view first)) (arguments_onto-push others last rest)
+
+-- what is left of a judgement of arguments, after those that are judged already
+abbrev pub arguments_after : List Expr → Result tree.Arguments LowerError
+    → Result tree.Arguments LowerError
+arguments_after resolved left = result_and_then left (λ rest. Ok (arguments_onto resolved rest))
+
+pub arguments_after_none : (left : Result tree.Arguments LowerError)
+    → arguments_after [] left ≡ left
+arguments_after_none (Ok rest) = refl
+arguments_after_none (Err refusal) = refl
+
+arguments_after_more : (resolved : List Expr) (last : Expr)
+    (left : Result tree.Arguments LowerError) → arguments_after (resolved ++ last ∷ []) left
+    ≡ arguments_after resolved (result_and_then left
+    (λ rest. Ok (tree.Argument (expr_view last) rest)))
+arguments_after_more resolved last (Ok rest) = ap Ok (arguments_onto-push resolved last rest)
+arguments_after_more resolved last (Err refusal) = refl
+
+-- how many arguments a list has
+pub arguments_counted : (arguments : List Expr)
+    → argument_count (listed_view arguments) ≡ length arguments
+arguments_counted [] = refl
+arguments_counted (first ∷ rest) = ap suc (arguments_counted rest)
+
 -- a refusal passes through
 pub refusal_through : {A B : Type 0} (first : Result A LowerError) (go : A → Result B LowerError)
     (e : LowerError) → IsRefusal first e → IsRefusal (result_and_then first go) e
 refusal_through first go (refused.UnknownName name) h = ap (λ r. result_and_then r go) h
 refusal_through first go refused.TypeMismatch h = ap (λ r. result_and_then r go) h
 refusal_through first go (refused.ConstFault cause) h = ap (λ r. result_and_then r go) h
+refusal_through first go refused.BadArguments h = ap (λ r. result_and_then r go) h
 refusal_through first go refused.NoMemory h = h
 
 -- a refusal of an equal judgement
@@ -57,6 +105,7 @@ pub refusal_same : {A : Type 0} (first second : Result A LowerError) (e : LowerE
 refusal_same first second (refused.UnknownName name) same h = sym same ∙ h
 refusal_same first second refused.TypeMismatch same h = sym same ∙ h
 refusal_same first second (refused.ConstFault cause) same h = sym same ∙ h
+refusal_same first second refused.BadArguments same h = sym same ∙ h
 refusal_same first second refused.NoMemory same h = h
 
 -- the refusal of what was to come next
@@ -137,3 +186,69 @@ block_refused context names outer resolved x rest e h =
     (refusal_through (judged.stmt_resolved context names outer x)
     (λ first'. result_and_then (judged.stmts_resolved context (names_after names x) outer rest)
     (λ rest'. Ok (tree.Then first' rest'))) e h)
+
+-- the judgement of one more argument
+pub arguments_after_step : (context : judged.Context) (names : TypedNames) (resolved : List Expr)
+    (x : tree.Expr) (y : Expr) (rest : tree.Arguments)
+    → judged.expr_as context names Int x ≡ Ok (expr_view y)
+    → arguments_after (resolved ++ y ∷ []) (judged.arguments_resolved context names rest)
+    ≡ arguments_after resolved (judged.arguments_resolved context names (tree.Argument x rest))
+arguments_after_step context names resolved x y rest h =
+    let left = judged.arguments_resolved context names rest in
+    let go : tree.Expr → Result tree.Arguments LowerError =
+    λ first'. result_and_then left (λ rest'. Ok (tree.Argument first' rest')) in
+    arguments_after_more resolved y left
+    ∙ ap (λ r. arguments_after resolved (result_and_then r go)) (sym h)
+
+-- the refusal of an argument is that of the arguments
+pub arguments_refused : (context : judged.Context) (names : TypedNames) (resolved : List Expr)
+    (x : tree.Expr) (rest : tree.Arguments) (e : LowerError)
+    → IsRefusal (judged.expr_as context names Int x) e
+    → IsRefusal (arguments_after resolved (judged.arguments_resolved context names
+    (tree.Argument x rest))) e
+arguments_refused context names resolved x rest e h =
+    refusal_through (judged.arguments_resolved context names (tree.Argument x rest))
+    (λ rest'. Ok (arguments_onto resolved rest')) e
+    (refusal_through (judged.expr_as context names Int x)
+    (λ first'. result_and_then (judged.arguments_resolved context names rest)
+    (λ rest'. Ok (tree.Argument first' rest'))) e h)
+
+-- what is left of a judgement of names, after those that are judged already
+abbrev pub plain_after : {A : Type 0} → List A → Result (List A) LowerError
+    → Result (List A) LowerError
+plain_after resolved left = result_and_then left (λ rest. Ok (resolved ++ rest))
+
+pub plain_after_none : {A : Type 0} (left : Result (List A) LowerError)
+    → plain_after [] left ≡ left
+plain_after_none (Ok rest) = refl
+plain_after_none (Err refusal) = refl
+
+pub plain_after_step : {A : Type 0} (resolved : List A) (y : A) (first : Result A LowerError)
+    (left : Result (List A) LowerError) → first ≡ Ok y
+    → plain_after (resolved ++ y ∷ []) left ≡ plain_after resolved (result_and_then first
+    (λ first'. result_and_then left (λ rest'. Ok (first' ∷ rest'))))
+plain_after_step {A} resolved y first left h = more left
+    ∙ ap (λ r. plain_after resolved (result_and_then r
+    (λ first'. result_and_then left (λ rest'. Ok (first' ∷ rest'))))) (sym h)
+  where
+    more : (left : Result (List A) LowerError) → plain_after (resolved ++ y ∷ []) left
+        ≡ plain_after resolved (result_and_then left (λ rest'. Ok (y ∷ rest')))
+    more (Ok rest) = ap Ok (append_assoc resolved (y ∷ []) rest)
+    more (Err refusal) = refl
+
+pub plain_refused : {A : Type 0} (resolved : List A) (first : Result A LowerError)
+    (left : Result (List A) LowerError) (e : LowerError) → IsRefusal first e
+    → IsRefusal (plain_after resolved (result_and_then first
+    (λ first'. result_and_then left (λ rest'. Ok (first' ∷ rest'))))) e
+plain_refused resolved first left e h =
+    refusal_through
+    (result_and_then first (λ first'. result_and_then left (λ rest'. Ok (first' ∷ rest'))))
+    (λ rest'. Ok (resolved ++ rest')) e
+    (refusal_through first (λ first'. result_and_then left (λ rest'. Ok (first' ∷ rest'))) e h)
+
+-- the first of the names that are left, and the others
+pub names_left : {A : Type 0} (items : List A) (i : ℕ) (x : A) → i < length items
+    → x ≡ get_or items i x → drop i items ≡ x ∷ drop (i + 1) items
+names_left items i x lt at =
+    let e : drop (suc i) items ≡ drop (i + 1) items = rw add-one refl in
+    drop-cons items i x lt ∙ ap (λ y. y ∷ drop (suc i) items) (sym at) ∙ ap (λ l. x ∷ l) e

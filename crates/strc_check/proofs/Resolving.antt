@@ -7,25 +7,34 @@ use Rattle.strc_base.specs.Results.{result_and_then}
 use Rattle.strc_syntax.specs.Tree as tree
 use Rattle.strc_syntax.specs.declared.tree.ItemType.{ItemType}
 use Rattle.strc_check.specs.declared.error.LowerError.{LowerError}
-use Rattle.strc_check.specs.declared.types.ValueType.{ValueType}
+use Rattle.strc_semantics.specs.declared.types.ValueType.{ValueType}
 use Rattle.strc_base.specs.Names.{has_name, plain_names}
 use Rattle.strc_semantics.specs.Filters.{Filter, declared_names, field_names, sized_all}
 use Rattle.strc_semantics.specs.Filters.{sized_fields}
-use Rattle.strc_semantics.specs.Scoping.{Scope, cells_of}
-use Rattle.strc_check.specs.Typing as typing
-use Rattle.strc_check.specs.Typing.{TypedNames, type_of, names_with, names_after_fields}
+use Rattle.strc_semantics.specs.Scoping as plain
+use Rattle.strc_semantics.specs.Scoping.{Scope, cells_of, answer_name, helper_scope}
+use Rattle.strc_semantics.specs.Returns.{names_hide}
+use Rattle.strc_syntax.specs.declared.tree.HelperType.{HelperType}
+use Rattle.strc_semantics.specs.declared.types.ValueType.TheVariants.{Int}
+use Rattle.strc_semantics.specs.Typing as typing
+use Rattle.strc_semantics.specs.Typing.{TypedNames, type_of, names_with, names_after_fields}
 use Rattle.strc_check.specs.Resolution.{Context, Work, type_resolved, initial_resolved}
-use Rattle.strc_check.specs.Resolution.{init_context, body_context, rates_resolved, field_resolved}
+use Rattle.strc_check.specs.Resolution.{start_context, helper_context, body_context}
+use Rattle.strc_check.specs.Resolution.{rates_resolved, field_resolved, parameter_resolved}
+use Rattle.strc_check.specs.Resolution.{is_taken}
+use Rattle.strc_check.specs.Resolution.{parameters_resolved, helper_resolved, known_after}
+use Rattle.strc_check.specs.Signatures.{Signatures, signatures_after, with_parameters}
 use Rattle.strc_check.specs.Resolution.{fields_resolved, fields_after, body_resolved, work_resolved}
 use Rattle.strc_check.specs.Resolution.{member_resolved, members_resolved, has_parts}
 use Rattle.strc_check.specs.Resolution.{filter_resolved}
 use Rattle.strc_semantics.specs.Closed.{IsNamed, AreClosedFields, AreClosed, IsClosedMember}
-use Rattle.strc_semantics.specs.Closed.{AreClosedMembers, IsClosedFilter}
+use Rattle.strc_semantics.specs.Closed.{AreClosedMembers, IsClosedFilter, IsClosedBody}
 use Rattle.strc_base.proofs.Scopes.{bytes_eq_same}
-use Rattle.strc_check.proofs.ResolvingStatements.{Gives, then_gives, any_gives, kept_gives, Sees}
-use Rattle.strc_check.proofs.ResolvingStatements.{named_in, plain_declared, FitsType, FitsDeclared}
-use Rattle.strc_check.proofs.ResolvingStatements.{type_gives, IsLikeVariable, initial_like}
-use Rattle.strc_check.proofs.ResolvingStatements.{stmts_gives}
+use Rattle.strc_check.proofs.ResolvingExpressions.{Gives, then_gives, any_gives, kept_gives, Sees}
+use Rattle.strc_check.proofs.ResolvingExpressions.{named_in, plain_declared, names_more, sees_more}
+use Rattle.strc_check.proofs.ResolvingStatements.{FitsType, FitsDeclared, type_gives}
+use Rattle.strc_check.proofs.ResolvingStatements.{IsLikeVariable, initial_like, stmts_gives}
+use Rattle.strc_check.proofs.ResolvingStatements.{AreLike, kept_known, not_answer}
 
 -- the names of fields are among these
 abbrev AreNamedFields : List (List ℕ) → List tree.Variable → Type 0
@@ -45,7 +54,8 @@ AreNamedMembers fields [] = Unit {0}
 AreNamedMembers fields (first ∷ rest) = IsNamedMember fields first × AreNamedMembers fields rest
 
 field_gives : (context : Context) (scope : Scope) (fields : TypedNames) (before : List (List ℕ))
-    (kind : ValueType) (cells : ℕ) (variable : tree.Variable) → Sees scope fields → FitsType kind
+    (kind : ValueType) (cells : ℕ) (variable : tree.Variable) → Sees context scope fields
+    → FitsType kind
     cells → Gives (IsLikeVariable scope cells variable)
     (field_resolved context fields before kind variable)
 field_gives context scope fields before kind cells variable sees fits =
@@ -55,7 +65,8 @@ field_gives context scope fields before kind cells variable sees fits =
     (initial_like context scope fields kind cells variable sees fits)
 
 fields_give : (context : Context) (scope : Scope) (fields : TypedNames) (before : List (List ℕ))
-    (kind : ValueType) (cells : ℕ) (variables : List tree.Variable) → Sees scope fields → FitsType
+    (kind : ValueType) (cells : ℕ) (variables : List tree.Variable) → Sees context scope fields
+    → FitsType
     kind cells → AreNamedFields (plain_names fields) variables → Gives
     (AreClosedFields scope cells) (fields_resolved context fields before kind variables)
 fields_give context scope fields before kind cells [] sees fits named = tt
@@ -71,33 +82,120 @@ fields_give context scope fields before kind cells (first ∷ rest) sees fits na
     named.1) (λ r h'. (
       record {
         0 = subst (IsNamed scope) (sym h.2)
-            (named_in scope (plain_names fields) first.name sees named.0);
+            (sees.0 first.name named.0);
         1 = h.0;
         2 = h.1;
       },
       h',
     )))
 
-work_gives : (constants : List (List ℕ × ℤ)) (input output : ItemType) (scope : Scope)
-    (fields : TypedNames) (work : Work) → Sees scope fields → Gives
-    (λ (work' : Work). AreClosed scope work'.block)
-    (work_resolved constants input output fields work)
-work_gives constants input output scope fields work sees =
-    let context = body_context constants input output in
-    let closed : Work → Type 0 = λ work'. AreClosed scope work'.block in
+-- a scope of the same names
+abbrev pub SameNames : Scope → TypedNames → Type 0
+SameNames scope names = plain_names scope ≡ plain_names names
+
+-- the names are seen in it
+seen_in : (scope : Scope) (names : TypedNames) → SameNames scope names → (name : List ℕ)
+    → has_name (plain_names names) name ≡ true → IsNamed scope name
+seen_in scope names same name there = named_in scope (plain_names names) name same there
+
+work_gives : (constants : List (List ℕ × ℤ)) (helpers : Signatures) (input output : ItemType)
+    (scope : Scope) (fields : TypedNames) (work : Work) → SameNames scope fields → Gives
+    (λ (work' : Work). IsClosedBody scope work'.block)
+    (work_resolved constants helpers input output fields work)
+work_gives constants helpers input output scope fields work same =
+    let context = body_context constants helpers input output in
+    let closed : Work → Type 0 = λ work'. IsClosedBody scope work'.block in
     any_gives closed (rates_resolved constants fields input output work.rates)
     (λ r. result_and_then (body_resolved context fields work.block)
     (λ b. Ok (record { rates = r; block = b }))) (λ r.
-    then_gives (AreClosed scope) closed (body_resolved context fields work.block)
+    then_gives (AreLike context scope) closed (body_resolved context fields work.block)
     (λ b. Ok (record { rates = r; block = b }))
-    (stmts_gives context scope fields (length fields) work.block sees) (λ b h. h))
+    (stmts_gives context scope fields (length fields) work.block (seen_in scope fields same, tt))
+    (λ b h. record { 0 = h.0; 1 = h.1.0 refl; 2 = h.1.2 }))
 
-member_gives : (constants : List (List ℕ × ℤ)) (input output : ItemType) (scope : Scope)
-    (fields : TypedNames) (before : List (List ℕ)) (m : tree.Member) → Sees scope fields →
-    IsNamedMember (plain_names fields) m → Gives (IsClosedMember scope)
-    (member_resolved constants input output fields before m)
-member_gives constants input output scope fields before (tree.Fields kind variables) sees named =
-    let context = init_context constants in
+-- parameters are seen inside the names around them
+sees_parameters : (context : Context) (scope : Scope) (names : TypedNames)
+    (parameters : List (List ℕ)) → Sees context scope names
+    → Sees context (plain.with_parameters scope parameters) (with_parameters names parameters)
+sees_parameters context scope names [] sees = sees
+sees_parameters context scope names (first ∷ rest) sees =
+    sees_parameters context (record { 0 = first; 1 = 1 } ∷ scope)
+    (record { 0 = first; 1 = Int } ∷ names) rest
+    (sees_more context scope names first first 1 Int refl sees)
+
+-- in a helper function's block its parameters and the fields are seen, and its answer
+sees_helper : (constants : List (List ℕ × ℤ)) (helpers : Signatures) (kind : HelperType)
+    (scope : Scope) (fields : TypedNames) (parameters : List (List ℕ)) → SameNames scope fields
+    → Sees (helper_context constants helpers kind) (helper_scope scope parameters)
+    (with_parameters fields parameters)
+sees_helper constants helpers kind scope fields parameters same =
+    sees_parameters (helper_context constants helpers kind)
+    (record { 0 = answer_name; 1 = 2 } ∷ scope) fields parameters (
+      names_more scope answer_name 2 (plain_names fields) (seen_in scope fields same),
+      refl,
+    )
+
+-- parameters are accepted as they are, where none of them has the name of the answer
+abbrev AreParameters : List (List ℕ) → List (List ℕ) → Type 0
+AreParameters parameters given = (given ≡ parameters) × (names_hide given ≡ false)
+
+neither : (a b : Bool) → a ≡ false → b ≡ false → (a || b) ≡ false
+neither a b e f = ap (λ t. t || b) e ∙ f
+
+parameters_give : (names : TypedNames) (outer : ℕ) (parameters : List (List ℕ))
+    → Gives (AreParameters parameters) (parameters_resolved names outer parameters)
+parameters_give names outer [] = (refl, refl)
+parameters_give names outer (first ∷ rest) =
+    let one : List ℕ → Type 0 = λ name. (name ≡ first) × (bytes_eq name answer_name ≡ false) in
+    then_gives one (AreParameters (first ∷ rest)) (parameter_resolved names outer first)
+    (λ f. result_and_then (parameters_resolved (record { 0 = first; 1 = Int } ∷ names) outer rest)
+    (λ r. Ok (f ∷ r)))
+    (kept_known one (not (is_taken names outer first)) (Ok first)
+    (λ free. (refl, not_answer names outer first first refl free))) (λ f h.
+    then_gives (AreParameters rest) (AreParameters (first ∷ rest))
+    (parameters_resolved (record { 0 = first; 1 = Int } ∷ names) outer rest)
+    (λ r. Ok (f ∷ r))
+    (parameters_give (record { 0 = first; 1 = Int } ∷ names) outer rest) (λ r h'. (
+      ap (λ n. n ∷ r) h.0 ∙ ap (λ l. first ∷ l) h'.0,
+      neither (bytes_eq f answer_name) (names_hide r) h.1 h'.1,
+    )))
+
+helper_gives : (constants : List (List ℕ × ℤ)) (helpers : Signatures) (scope : Scope)
+    (fields : TypedNames) (known : List (List ℕ)) (kind : HelperType) (name : List ℕ)
+    (parameters : List (List ℕ)) (block : tree.Stmts) → SameNames scope fields
+    → Gives (IsClosedMember scope)
+    (helper_resolved constants helpers fields known kind name parameters block)
+helper_gives constants helpers scope fields known kind name parameters block same =
+    let context = helper_context constants helpers kind in
+    let names = with_parameters fields parameters in
+    let inner = helper_scope scope parameters in
+    let closed = IsClosedMember scope in
+    let resolved = body_resolved context names block in
+    let given = parameters_resolved fields (length fields) parameters in
+    kept_gives closed (not (has_name known name))
+    (result_and_then given (λ p. result_and_then resolved
+    (λ b. Ok (tree.Helper kind name p b))))
+    (then_gives (AreParameters parameters) closed given
+    (λ p. result_and_then resolved (λ b. Ok (tree.Helper kind name p b)))
+    (parameters_give fields (length fields) parameters) (λ p e.
+    then_gives (AreLike context inner) closed resolved (λ b. Ok (tree.Helper kind name p b))
+    (stmts_gives context inner names (length names) block
+    (sees_helper constants helpers kind scope fields parameters same))
+    (λ b h. record {
+      0 = subst (λ l. AreClosed (helper_scope scope l) b) (sym e.0) h.0;
+      1 = h.1.1 refl;
+      2 = e.1;
+      3 = h.1.2;
+    })))
+
+member_gives : (constants : List (List ℕ × ℤ)) (helpers : Signatures) (input output : ItemType)
+    (scope : Scope) (fields : TypedNames) (before known : List (List ℕ)) (m : tree.Member)
+    → SameNames scope fields → IsNamedMember (plain_names fields) m
+    → Gives (IsClosedMember scope)
+    (member_resolved constants helpers input output fields before known m)
+member_gives constants helpers input output scope fields before known
+    (tree.Fields kind variables) same named =
+    let context = start_context constants helpers in
     let closed = IsClosedMember scope in
     then_gives (FitsDeclared kind) closed (type_resolved constants fields kind)
     (λ t. result_and_then (fields_resolved context fields before t.kind variables)
@@ -105,43 +203,54 @@ member_gives constants input output scope fields before (tree.Fields kind variab
     then_gives (AreClosedFields scope (cells_of t.written)) closed
     (fields_resolved context fields before t.kind variables)
     (λ v. Ok (tree.Fields t.written v))
-    (fields_give context scope fields before t.kind (cells_of t.written) variables sees
-    fits.0 named) (λ v h. h))
-member_gives constants input output scope fields before (tree.Init block) sees named =
-    let context = init_context constants in
-    then_gives (AreClosed scope) (IsClosedMember scope) (body_resolved context fields block)
-    (λ b. Ok (tree.Init b)) (stmts_gives context scope fields (length fields) block sees)
-    (λ b h. h)
-member_gives constants input output scope fields before (tree.Prework rates block) sees named =
+    (fields_give context scope fields before t.kind (cells_of t.written) variables
+    (seen_in scope fields same, tt) fits.0 named) (λ v h. h))
+member_gives constants helpers input output scope fields before known (tree.Init block) same
+    named =
+    let context = start_context constants helpers in
+    then_gives (AreLike context scope) (IsClosedMember scope) (body_resolved context fields block)
+    (λ b. Ok (tree.Init b))
+    (stmts_gives context scope fields (length fields) block (seen_in scope fields same, tt))
+    (λ b h. record { 0 = h.0; 1 = h.1.0 refl; 2 = h.1.2 })
+member_gives constants helpers input output scope fields before known
+    (tree.Prework rates block) same named =
     let work : Work = record { rates = rates; block = block } in
-    then_gives (λ (work' : Work). AreClosed scope work'.block) (IsClosedMember scope)
-    (work_resolved constants input output fields work) (λ w. Ok (tree.Prework w.rates w.block))
-    (work_gives constants input output scope fields work sees) (λ w h. h)
-member_gives constants input output scope fields before (tree.Work rates block) sees named =
+    then_gives (λ (work' : Work). IsClosedBody scope work'.block) (IsClosedMember scope)
+    (work_resolved constants helpers input output fields work)
+    (λ w. Ok (tree.Prework w.rates w.block))
+    (work_gives constants helpers input output scope fields work same) (λ w h. h)
+member_gives constants helpers input output scope fields before known (tree.Work rates block) same
+    named =
     let work : Work = record { rates = rates; block = block } in
-    then_gives (λ (work' : Work). AreClosed scope work'.block) (IsClosedMember scope)
-    (work_resolved constants input output fields work) (λ w. Ok (tree.Work w.rates w.block))
-    (work_gives constants input output scope fields work sees) (λ w h. h)
-member_gives constants input output scope fields before (tree.Helper kind name parameters block)
-    sees named = tt
+    then_gives (λ (work' : Work). IsClosedBody scope work'.block) (IsClosedMember scope)
+    (work_resolved constants helpers input output fields work)
+    (λ w. Ok (tree.Work w.rates w.block))
+    (work_gives constants helpers input output scope fields work same) (λ w h. h)
+member_gives constants helpers input output scope fields before known
+    (tree.Helper kind name parameters block) same named =
+    helper_gives constants helpers scope fields known kind name parameters block same
 
-members_give : (constants : List (List ℕ × ℤ)) (input output : ItemType) (scope : Scope)
-    (fields : TypedNames) (before : List (List ℕ)) (ms : List tree.Member) → Sees scope fields →
+members_give : (constants : List (List ℕ × ℤ)) (helpers : Signatures) (input output : ItemType)
+    (scope : Scope)
+    (fields : TypedNames) (before known : List (List ℕ)) (ms : List tree.Member)
+    → SameNames scope fields →
     AreNamedMembers (plain_names fields) ms → Gives (AreClosedMembers scope)
-    (members_resolved constants input output fields before ms)
-members_give constants input output scope fields before [] sees named = tt
-members_give constants input output scope fields before (first ∷ rest) sees named =
+    (members_resolved constants helpers input output fields before known ms)
+members_give constants helpers input output scope fields before known [] sees named = tt
+members_give constants helpers input output scope fields before known (first ∷ rest) sees named =
     let closed = AreClosedMembers scope in
     then_gives (IsClosedMember scope) closed
-    (member_resolved constants input output fields before first)
+    (member_resolved constants helpers input output fields before known first)
     (λ f. result_and_then
-    (members_resolved constants input output fields (fields_after before first) rest)
-    (λ r. Ok (f ∷ r))) (member_gives constants input output scope fields before
+    (members_resolved constants helpers input output fields (fields_after before first)
+    (known_after known first) rest)
+    (λ r. Ok (f ∷ r))) (member_gives constants helpers input output scope fields before known
     first sees named.0) (λ f h.
     then_gives closed closed
-    (members_resolved constants input output fields (fields_after before first) rest)
-    (λ r. Ok (f ∷ r)) (members_give constants input output scope fields
-    (fields_after before first) rest sees named.1) (λ r h'. (h, h')))
+    (members_resolved constants helpers input output fields (fields_after before first)
+    (known_after known first) rest)
+    (λ r. Ok (f ∷ r)) (members_give constants helpers input output scope fields
+    (fields_after before first) (known_after known first) rest sees named.1) (λ r h'. (h, h')))
 
 -- variables of the same names
 abbrev AreNamesakes : List tree.Variable → List tree.Variable → Type 0
@@ -198,11 +307,12 @@ abbrev HasFields : tree.Member → tree.Member → Type 0
 HasFields m m' = (rest rest' : List tree.Member) → HaveFields rest rest' → HaveFields (m ∷ rest)
     (m' ∷ rest')
 
-member_fields : (constants : List (List ℕ × ℤ)) (input output : ItemType) (fields : TypedNames)
-    (before : List (List ℕ)) (m : tree.Member) → Gives (HasFields m)
-    (member_resolved constants input output fields before m)
-member_fields constants input output fields before (tree.Fields kind variables) =
-    let context = init_context constants in
+member_fields : (constants : List (List ℕ × ℤ)) (helpers : Signatures) (input output : ItemType)
+    (fields : TypedNames)
+    (before known : List (List ℕ)) (m : tree.Member) → Gives (HasFields m)
+    (member_resolved constants helpers input output fields before known m)
+member_fields constants helpers input output fields before known (tree.Fields kind variables) =
+    let context = start_context constants helpers in
     let has = HasFields (tree.Fields kind variables) in
     any_gives has (type_resolved constants fields kind)
     (λ t. result_and_then (fields_resolved context fields before t.kind variables)
@@ -214,34 +324,49 @@ member_fields constants input output fields before (tree.Fields kind variables) 
     sized_names-append (sized_all (cells_of t.written) v) (sized_fields rest')
     ∙ ap (λ l. l ++ plain_names (sized_fields rest')) (sized_names-all (cells_of t.written) v ∙ h)
     ∙ ap (λ l. declared_names variables ++ l) same))
-member_fields constants input output fields before (tree.Init block) =
-    any_gives (HasFields (tree.Init block)) (body_resolved (init_context constants) fields block)
+member_fields constants helpers input output fields before known (tree.Init block) =
+    any_gives (HasFields (tree.Init block))
+    (body_resolved (start_context constants helpers) fields block)
     (λ b. Ok (tree.Init b)) (λ b rest rest' same. same)
-member_fields constants input output fields before (tree.Prework rates block) =
+member_fields constants helpers input output fields before known (tree.Prework rates block) =
     any_gives (HasFields (tree.Prework rates block))
-    (work_resolved constants input output fields (record { rates = rates; block = block }))
+    (work_resolved constants helpers input output fields (record { rates = rates; block = block }))
     (λ w. Ok (tree.Prework w.rates w.block)) (λ w rest rest' same. same)
-member_fields constants input output fields before (tree.Work rates block) =
+member_fields constants helpers input output fields before known (tree.Work rates block) =
     any_gives (HasFields (tree.Work rates block))
-    (work_resolved constants input output fields (record { rates = rates; block = block }))
+    (work_resolved constants helpers input output fields (record { rates = rates; block = block }))
     (λ w. Ok (tree.Work w.rates w.block)) (λ w rest rest' same. same)
-member_fields constants input output fields before (tree.Helper kind name parameters block) = tt
+member_fields constants helpers input output fields before known
+    (tree.Helper kind name parameters block) =
+    let has = HasFields (tree.Helper kind name parameters block) in
+    let resolved = body_resolved (helper_context constants helpers kind)
+    (with_parameters fields parameters) block in
+    let given = parameters_resolved fields (length fields) parameters in
+    kept_gives has (not (has_name known name))
+    (result_and_then given (λ p. result_and_then resolved
+    (λ b. Ok (tree.Helper kind name p b))))
+    (any_gives has given
+    (λ p. result_and_then resolved (λ b. Ok (tree.Helper kind name p b))) (λ p.
+    any_gives has resolved (λ b. Ok (tree.Helper kind name p b)) (λ b rest rest' same. same)))
 
-members_fields : (constants : List (List ℕ × ℤ)) (input output : ItemType) (fields : TypedNames)
-    (before : List (List ℕ)) (ms : List tree.Member) → Gives (HaveFields ms)
-    (members_resolved constants input output fields before ms)
-members_fields constants input output fields before [] = refl
-members_fields constants input output fields before (first ∷ rest) =
+members_fields : (constants : List (List ℕ × ℤ)) (helpers : Signatures) (input output : ItemType)
+    (fields : TypedNames)
+    (before known : List (List ℕ)) (ms : List tree.Member) → Gives (HaveFields ms)
+    (members_resolved constants helpers input output fields before known ms)
+members_fields constants helpers input output fields before known [] = refl
+members_fields constants helpers input output fields before known (first ∷ rest) =
     then_gives (HasFields first) (HaveFields (first ∷ rest))
-    (member_resolved constants input output fields before first)
+    (member_resolved constants helpers input output fields before known first)
     (λ f. result_and_then
-    (members_resolved constants input output fields (fields_after before first) rest)
-    (λ r. Ok (f ∷ r))) (member_fields constants input output fields before first)
+    (members_resolved constants helpers input output fields (fields_after before first)
+    (known_after known first) rest)
+    (λ r. Ok (f ∷ r))) (member_fields constants helpers input output fields before known first)
     (λ f h.
     then_gives (HaveFields rest) (HaveFields (first ∷ rest))
-    (members_resolved constants input output fields (fields_after before first) rest)
-    (λ r. Ok (f ∷ r)) (members_fields constants input output fields
-    (fields_after before first) rest) (λ r h'. h rest r h'))
+    (members_resolved constants helpers input output fields (fields_after before first)
+    (known_after known first) rest)
+    (λ r. Ok (f ∷ r)) (members_fields constants helpers input output fields
+    (fields_after before first) (known_after known first) rest) (λ r h'. h rest r h'))
 
 -- a name among more names
 or_false : (t : Bool) → t || true ≡ true
@@ -323,7 +448,7 @@ AreLikeMembers ms ms' = AreClosedMembers (reverse (sized_fields ms')) ms' × Hav
 own_scope : (ms : List tree.Member) (fields : TypedNames)
     (r : Result (List tree.Member) LowerError) → plain_names fields ≡ reverse (field_names ms) →
     Gives (HaveFields ms) r →
-    ((scope : Scope) → Sees scope fields → Gives (AreClosedMembers scope) r) → Gives
+    ((scope : Scope) → SameNames scope fields → Gives (AreClosedMembers scope) r) → Gives
     (AreLikeMembers ms) r
 own_scope ms fields (Ok ms') names has closed = (
   closed (reverse (sized_fields ms'))
@@ -336,19 +461,20 @@ filter_gives : (constants : List (List ℕ × ℤ)) (filter : Filter) → Gives 
     (filter_resolved constants filter)
 filter_gives constants filter =
     let ms = filter.members in
+    let helpers = signatures_after [] ms in
     let fields = names_after_fields [] ms in
     let names : plain_names fields ≡ reverse (field_names ms) = plain_fields [] ms ∙ append-nil
     (reverse (field_names ms)) in
     let named : AreNamedMembers (plain_names fields) ms = subst (λ l. AreNamedMembers l ms)
     (sym (plain_fields [] ms)) (all_named [] ms) in
-    let resolved = members_resolved constants filter.input filter.output fields [] ms in
+    let resolved = members_resolved constants helpers filter.input filter.output fields [] [] ms in
     kept_gives (IsLikeFilter filter) (has_parts ms)
     (result_and_then resolved (λ ms'. Ok (record filter { members = ms' })))
     (then_gives (AreLikeMembers ms) (IsLikeFilter filter) resolved
     (λ ms'. Ok (record filter { members = ms' }))
     (own_scope ms fields resolved names
-    (members_fields constants filter.input filter.output fields [] ms)
-    (λ scope sees. members_give constants filter.input filter.output scope fields [] ms
+    (members_fields constants helpers filter.input filter.output fields [] [] ms)
+    (λ scope sees. members_give constants helpers filter.input filter.output scope fields [] [] ms
     sees named)) (λ ms' h. h))
 
 -- the filter that the judgement gives is closed
@@ -378,9 +504,9 @@ resolved_types constants filter filter' e = subst
         (filter_resolved constants filter)
     types_given =
         kept_gives same (has_parts filter.members)
-        (result_and_then (members_resolved constants filter.input filter.output
-        (names_after_fields [] filter.members) [] filter.members)
+        (result_and_then (members_resolved constants (signatures_after [] filter.members)
+        filter.input filter.output (names_after_fields [] filter.members) [] [] filter.members)
         (λ ms. Ok (record filter { members = ms })))
-        (any_gives same (members_resolved constants filter.input filter.output
-        (names_after_fields [] filter.members) [] filter.members)
+        (any_gives same (members_resolved constants (signatures_after [] filter.members)
+        filter.input filter.output (names_after_fields [] filter.members) [] [] filter.members)
         (λ ms. Ok (record filter { members = ms })) (λ ms. (refl, refl)))

@@ -1,10 +1,12 @@
 -- Variables that are added to others, with their types.
-use Rattle.std.proofs.Common.{◌≡◌, ◌-◌, List, [], ◌∷◌, ◌++◌, length, drop, refl, ap, ◌∙◌, arith}
+use Rattle.std.proofs.Common.{◌≡◌, ◌-◌, ℕ, List, [], ◌∷◌, ◌++◌, length, drop, refl, ap, ◌∙◌, arith}
 use Rattle.std.proofs.Common.{length-append}
 use Rattle.std.proofs.Math.Seq.{drop-append_seam}
 use Rattle.strc_syntax.specs.Tree as tree
-use Rattle.strc_check.specs.declared.types.ValueType.{ValueType}
-use Rattle.strc_check.specs.Typing.{TypedNames, type_of, with_declared, names_after}
+use Rattle.strc_semantics.specs.declared.types.ValueType.{ValueType}
+use Rattle.strc_semantics.specs.declared.types.ValueType.TheVariants.{Int}
+use Rattle.strc_semantics.specs.Typing.{TypedNames, type_of, with_declared, names_after}
+use Rattle.strc_check.specs.Signatures.{with_parameters}
 
 -- the names are others, with some inside them
 pub record StandsOn (base names : TypedNames) : Type 0 where
@@ -70,3 +72,22 @@ drop_both names s s' =
     drop_inner names (names_after (names_after names s) s')
     (stands_on_after names (names_after names s) s'
     (stands_on_after names names s (stands_on_itself names)))
+
+-- parameters add names
+stands_on_parameters : (base names : TypedNames) (parameters : List (List ℕ))
+    → StandsOn base names → StandsOn base (with_parameters names parameters)
+stands_on_parameters base names [] h = h
+stands_on_parameters base names (first ∷ rest) h =
+    stands_on_parameters base (record { 0 = first; 1 = Int } ∷ names) rest
+    (record {
+      inner = record { 0 = first; 1 = Int } ∷ h.inner;
+      is =
+          ap (λ l. record { 0 = first; 1 = Int } ∷ l) h.is;
+    })
+
+-- without them the names are as before
+pub drop_parameters : (names : TypedNames) (parameters : List (List ℕ))
+    → drop (length (with_parameters names parameters) - length names)
+    (with_parameters names parameters) ≡ names
+drop_parameters names parameters = drop_inner names (with_parameters names parameters)
+    (stands_on_parameters names names parameters (stands_on_itself names))

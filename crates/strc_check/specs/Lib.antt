@@ -1,3 +1,3 @@
-pub mod Typing
+pub mod Signatures
 pub mod Resolution
 pub mod Verdicts

@@ -1,7 +1,8 @@
 -- The rules on names and types, and the filter with its constants substituted.
 use Rattle.std.specs.Prelude.{ℕ, ◌+◌, ℤ, pos, Bool, true, false, ◌==◌, ◌&&◌, ◌||◌, not}
 use Rattle.std.specs.Prelude.{if◌then◌else◌, List, [], ◌∷◌, length, Option, Some, None, Result, Ok}
-use Rattle.std.specs.Prelude.{Err, nat_lt}
+use Rattle.std.specs.Prelude.{Err, nat_lt, bytes_eq}
+use Rattle.strc_semantics.specs.Scoping.{answer_name}
 use Rattle.std.specs.Int.RustNames.{int_lt}
 use Rattle.strc_base.specs.Results.{result_and_then}
 use Rattle.strc_syntax.specs.Tree as tree
@@ -16,18 +17,22 @@ use Rattle.strc_syntax.specs.declared.tree.UnaryOperator.TheVariants as unary
 use Rattle.strc_syntax.specs.declared.tree.BinaryOperator.{BinaryOperator}
 use Rattle.strc_syntax.specs.declared.tree.BinaryOperator.TheVariants as binary
 use Rattle.strc_syntax.specs.declared.tree.StepOperator.{StepOperator}
+use Rattle.strc_syntax.specs.declared.tree.HelperType.{HelperType}
 use Rattle.strc_semantics.specs.declared.fault.Cause.{Cause}
 use Rattle.strc_semantics.specs.declared.fault.Cause.TheVariants.{Index}
 use Rattle.strc_check.specs.declared.error.LowerError.{LowerError}
 use Rattle.strc_check.specs.declared.error.LowerErrorKind.TheVariants as refused
 use Rattle.strc_check.specs.declared.type_rules.TheConstants.{LENGTH_LIMIT}
-use Rattle.strc_check.specs.declared.types.ValueType.{ValueType}
-use Rattle.strc_check.specs.declared.types.ValueType.TheVariants.{Int, Boolean, Array}
+use Rattle.strc_semantics.specs.declared.types.ValueType.{ValueType}
+use Rattle.strc_semantics.specs.declared.types.ValueType.TheVariants.{Int, Boolean, Array}
 use Rattle.strc_base.specs.Names.{has_name, value_named}
 use Rattle.strc_semantics.specs.Filters.{Filter, work_count}
-use Rattle.strc_check.specs.Typing.{TypedNames, same_type, is_array, names_with, names_after}
-use Rattle.strc_check.specs.Typing.{block_names, names_after_fields}
+use Rattle.strc_semantics.specs.Typing.{TypedNames, same_type, is_array, names_with, names_after}
+use Rattle.strc_semantics.specs.Typing.{block_names, names_after_fields}
 use Rattle.strc_semantics.specs.Constants.{constant_value}
+use Rattle.strc_check.specs.declared.signatures.Signature.{Signature}
+use Rattle.strc_check.specs.Signatures.{Signatures, signatures_after, given_type, argument_count}
+use Rattle.strc_check.specs.Signatures.{with_parameters}
 
 -- goes on where a rule is kept
 abbrev pub where_kept : {A : Type 0} → Bool → Result A LowerError → Result A LowerError
@@ -35,13 +40,16 @@ where_kept true next = next
 where_kept false next = Err refused.TypeMismatch
 
 -- where a text is: its constants, whether it may pop and peek, push and print, and whether it
--- is fixed before the start, so that it reads no variable
+-- is fixed before the start, so that it reads no variable; the helper functions that it may call,
+-- if it may call any; and in a helper function what that gives
 pub record Context : Type 0 where
   pub constants : List (List ℕ × ℤ)
   pub pops : Bool
   pub pushes : Bool
   pub prints : Bool
   pub constants_only : Bool
+  pub helpers : Option Signatures
+  pub returns : Option HelperType
 
 -- an expression with its constants substituted, and the type of its value
 pub record Typed : Type 0 where
@@ -161,42 +169,99 @@ step_element_typed operator name index =
     result_and_then (expect_type Int index)
     (λ index'. Ok (record { kind = Int; value = tree.StepElement operator name index' }))
 
--- an expression, among these names of variables
-abbrev pub expr_resolved : Context → TypedNames → tree.Expr → Result Typed LowerError
-expr_resolved context names (tree.Number value) =
-    Ok (record { kind = Int; value = tree.Number value })
-expr_resolved context names (tree.Truth value) =
-    Ok (record { kind = Boolean; value = tree.Truth value })
-expr_resolved context names (tree.Read name) = name_resolved context names name
-expr_resolved context names (tree.Element name index) =
-    result_and_then (array_resolved context names name) (λ name'.
-    result_and_then (expr_resolved context names index) (λ index'. element_typed name' index'))
-expr_resolved context names tree.Pop = where_kept context.pops
-    (Ok (record { kind = Int; value = tree.Pop }))
-expr_resolved context names (tree.Peek index) =
-    result_and_then (expr_resolved context names index) (λ index'. peek_typed context.pops index')
-expr_resolved context names (tree.Call name arguments) = Err refused.TypeMismatch
-expr_resolved context names (tree.Group inner) =
-    result_and_then (expr_resolved context names inner) (λ inner'. Ok (group_typed inner'))
-expr_resolved context names (tree.Unary operator operand) =
-    result_and_then (expr_resolved context names operand)
-    (λ operand'. unary_typed operator operand')
-expr_resolved context names (tree.Step operator name) =
-    result_and_then (step_resolved context names name)
-    (λ name'. Ok (record { kind = Int; value = tree.Step operator name' }))
-expr_resolved context names (tree.StepElement operator name index) =
-    result_and_then (array_resolved context names name) (λ name'.
-    result_and_then (expr_resolved context names index)
-    (λ index'. step_element_typed operator name' index'))
-expr_resolved context names (tree.Binary operator left right) =
-    result_and_then (expr_resolved context names left) (λ left'.
-    result_and_then (expr_resolved context names right)
-    (λ right'. binary_typed operator left' right'))
-expr_resolved context names (tree.Conditional condition chosen other) =
-    result_and_then (expr_resolved context names condition) (λ condition'.
-    result_and_then (expr_resolved context names chosen) (λ chosen'.
-    result_and_then (expr_resolved context names other)
-    (λ other'. conditional_typed condition' chosen' other')))
+-- what a helper function gives that is called with so many arguments
+abbrev pub called_as : List ℕ → (count : ℕ) → Option Signature → Result HelperType LowerError
+called_as name count None = Err (refused.UnknownName name)
+called_as name count (Some signature) =
+    if signature.parameters == count then Ok signature.kind else Err refused.BadArguments
+
+-- a helper function of this name, where calls may stand
+abbrev pub called_among : List ℕ → (count : ℕ) → Option Signatures → Result HelperType LowerError
+called_among name count None = Err refused.TypeMismatch
+called_among name count (Some helpers) = called_as name count (value_named helpers name)
+
+-- a call with its constants substituted, and what it gives
+pub record Called : Type 0 where
+  pub kind : HelperType
+  pub call : tree.Expr
+
+-- a call with these arguments, of which this comes
+abbrev pub call_given : Context → List ℕ → tree.Arguments → Result tree.Arguments LowerError
+    → Result Called LowerError
+call_given context name arguments resolved =
+    result_and_then (called_among name (argument_count arguments) context.helpers) (λ kind.
+    result_and_then resolved
+    (λ arguments'. Ok (record { kind = kind; call = tree.Call name arguments' })))
+
+-- what a call gives, as a value
+abbrev pub value_called : Option ValueType → tree.Expr → Result Typed LowerError
+value_called None call = Err refused.TypeMismatch
+value_called (Some kind) call = Ok (record { kind = kind; value = call })
+
+abbrev pub called_typed : Called → Result Typed LowerError
+called_typed called = value_called (given_type called.kind) called.call
+
+abbrev mutual
+  -- an expression, among these names of variables
+  pub expr_resolved : Context → TypedNames → tree.Expr → Result Typed LowerError
+  expr_resolved context names (tree.Number value) =
+      Ok (record { kind = Int; value = tree.Number value })
+  expr_resolved context names (tree.Truth value) =
+      Ok (record { kind = Boolean; value = tree.Truth value })
+  expr_resolved context names (tree.Read name) = name_resolved context names name
+  expr_resolved context names (tree.Element name index) =
+      result_and_then (array_resolved context names name) (λ name'.
+      result_and_then (expr_resolved context names index) (λ index'. element_typed name' index'))
+  expr_resolved context names tree.Pop = where_kept context.pops
+      (Ok (record { kind = Int; value = tree.Pop }))
+  expr_resolved context names (tree.Peek index) =
+      result_and_then (expr_resolved context names index) (λ index'. peek_typed context.pops index')
+  expr_resolved context names (tree.Call name arguments) =
+      result_and_then (call_given context name arguments
+      (arguments_resolved context names arguments)) (λ called. called_typed called)
+  expr_resolved context names (tree.Group inner) =
+      result_and_then (expr_resolved context names inner) (λ inner'. Ok (group_typed inner'))
+  expr_resolved context names (tree.Unary operator operand) =
+      result_and_then (expr_resolved context names operand)
+      (λ operand'. unary_typed operator operand')
+  expr_resolved context names (tree.Step operator name) =
+      result_and_then (step_resolved context names name)
+      (λ name'. Ok (record { kind = Int; value = tree.Step operator name' }))
+  expr_resolved context names (tree.StepElement operator name index) =
+      result_and_then (array_resolved context names name) (λ name'.
+      result_and_then (expr_resolved context names index)
+      (λ index'. step_element_typed operator name' index'))
+  expr_resolved context names (tree.Binary operator left right) =
+      result_and_then (expr_resolved context names left) (λ left'.
+      result_and_then (expr_resolved context names right)
+      (λ right'. binary_typed operator left' right'))
+  expr_resolved context names (tree.Conditional condition chosen other) =
+      result_and_then (expr_resolved context names condition) (λ condition'.
+      result_and_then (expr_resolved context names chosen) (λ chosen'.
+      result_and_then (expr_resolved context names other)
+      (λ other'. conditional_typed condition' chosen' other')))
+
+  -- the arguments of a call, which are numbers, from left to right
+  pub arguments_resolved : Context → TypedNames → tree.Arguments → Result tree.Arguments LowerError
+  arguments_resolved context names tree.NoArgument = Ok tree.NoArgument
+  arguments_resolved context names (tree.Argument first rest) =
+      result_and_then (result_and_then (expr_resolved context names first)
+      (λ typed. expect_type Int typed)) (λ first'.
+      result_and_then (arguments_resolved context names rest)
+      (λ rest'. Ok (tree.Argument first' rest')))
+
+-- a call
+abbrev pub call_resolved : Context → TypedNames → List ℕ → tree.Arguments
+    → Result Called LowerError
+call_resolved context names name arguments =
+    call_given context name arguments (arguments_resolved context names arguments)
+
+-- an expression that is a statement: a call may give nothing there
+abbrev pub evaluated : Context → TypedNames → tree.Expr → Result tree.Expr LowerError
+evaluated context names (tree.Call name arguments) =
+    result_and_then (call_resolved context names name arguments) (λ called. Ok called.call)
+evaluated context names value =
+    result_and_then (expr_resolved context names value) (λ typed. Ok typed.value)
 
 -- an expression of this type
 abbrev pub expr_as : Context → TypedNames → ValueType → tree.Expr → Result tree.Expr LowerError
@@ -219,6 +284,8 @@ rate_context constants = record {
   prints =
       false;
   constants_only = true;
+  helpers = None;
+  returns = None;
 }
 
 -- the value of a constant expression, or its fault
@@ -252,7 +319,20 @@ type_resolved constants names tree.Int = Ok (record { kind = Int; written = tree
 type_resolved constants names (tree.Array length) =
     result_and_then (number_resolved constants names length) (λ number. array_type number)
 
--- a variable, whose name no other one of its block has
+-- whether a name is taken in a block: by another of its variables, or by a helper function's
+-- answer, whose name no NAME of a text is
+abbrev pub is_taken : TypedNames → (outer : ℕ) → List ℕ → Bool
+is_taken names outer name = bytes_eq name answer_name || has_name (block_names outer names) name
+
+-- a variable of a filter's block
+abbrev pub local_resolved : Context → TypedNames → (outer : ℕ) → ValueType → tree.Variable
+    → Result tree.Variable LowerError
+local_resolved context names outer kind variable =
+    where_kept (not (is_taken names outer variable.name))
+    (result_and_then (initial_resolved context names kind variable.initial) (λ initial'.
+    Ok (record { name = variable.name; initial = initial' })))
+
+-- a variable of a composite stream's block, whose name no other one of its block has
 abbrev pub variable_resolved : Context → TypedNames → (outer : ℕ) → ValueType → tree.Variable
     → Result tree.Variable LowerError
 variable_resolved context names outer kind variable =
@@ -265,7 +345,7 @@ abbrev pub variables_resolved : Context → TypedNames → (outer : ℕ) → Val
     → Result (List tree.Variable) LowerError
 variables_resolved context names outer kind [] = Ok []
 variables_resolved context names outer kind (first ∷ rest) =
-    result_and_then (variable_resolved context names outer kind first) (λ first'.
+    result_and_then (local_resolved context names outer kind first) (λ first'.
     result_and_then (variables_resolved context
     (record { 0 = first.name; 1 = kind } ∷ names) outer kind rest) (λ rest'.
     Ok (first' ∷ rest')))
@@ -301,6 +381,21 @@ element_assign_resolved context names name index operator value =
 abbrev pub given_resolved : Context → TypedNames → Bool → tree.Expr → Result tree.Expr LowerError
 given_resolved context names may value = where_kept may (expr_as context names Int value)
 
+-- what is returned where this type is wanted, if a value is
+abbrev pub returned_as : Context → TypedNames → Option ValueType → Option tree.Expr
+    → Result (Option tree.Expr) LowerError
+returned_as context names None None = Ok None
+returned_as context names None (Some value) = Err refused.TypeMismatch
+returned_as context names (Some kind) None = Err refused.TypeMismatch
+returned_as context names (Some kind) (Some value) =
+    initial_resolved context names kind (Some value)
+
+-- what is returned from a helper function, if this is in one
+abbrev pub returned : Context → TypedNames → Option HelperType → Option tree.Expr
+    → Result (Option tree.Expr) LowerError
+returned context names None value = Err refused.TypeMismatch
+returned context names (Some kind) value = returned_as context names (given_type kind) value
+
 abbrev mutual
   -- a statement, among the names that can be seen, of which so many are outside its block
   pub stmt_resolved : Context → TypedNames → (outer : ℕ) → tree.Stmt → Result tree.Stmt LowerError
@@ -315,7 +410,7 @@ abbrev mutual
       (λ variables'.
       Ok (tree.Declare resolved.written variables')))
   stmt_resolved context names outer (tree.Evaluate value) =
-      result_and_then (expr_resolved context names value) (λ typed. Ok (tree.Evaluate typed.value))
+      result_and_then (evaluated context names value) (λ value'. Ok (tree.Evaluate value'))
   stmt_resolved context names outer (tree.Assign name operator value) =
       assign_resolved context names name operator value
   stmt_resolved context names outer (tree.AssignElement name index operator value) =
@@ -351,7 +446,9 @@ abbrev mutual
   stmt_resolved context names outer (tree.Println value) =
       result_and_then (given_resolved context names context.prints value)
       (λ value'. Ok (tree.Println value'))
-  stmt_resolved context names outer (tree.Return value) = Err refused.TypeMismatch
+  stmt_resolved context names outer (tree.Return value) =
+      result_and_then (returned context names context.returns value)
+      (λ value'. Ok (tree.Return value'))
 
   -- the statements of a block, each among the names that are declared before it
   pub stmts_resolved : Context → TypedNames → (outer : ℕ) → tree.Stmts
@@ -367,26 +464,36 @@ abbrev pub carries_items : ItemType → Bool
 carries_items item.Int = true
 carries_items item.Void = false
 
--- the sites: initialisers and `init`, as also the block of a composite stream; and bodies
+-- the sites: the block of a composite stream; initialisers and `init`, which call helper
+-- functions; those, which return what they give; and bodies
 abbrev pub init_context : List (List ℕ × ℤ) → Context
 init_context constants = record {
   constants = constants;
   pops = false;
   pushes = false;
-  prints =
-      false;
+  prints = false;
   constants_only = false;
+  helpers = None;
+  returns = None;
 }
 
-abbrev pub body_context : List (List ℕ × ℤ) → (input output : ItemType) → Context
-body_context constants input output =
+abbrev pub start_context : List (List ℕ × ℤ) → Signatures → Context
+start_context constants helpers = record (init_context constants) { helpers = Some helpers }
+
+abbrev pub helper_context : List (List ℕ × ℤ) → Signatures → HelperType → Context
+helper_context constants helpers kind =
+    record (start_context constants helpers) { returns = Some kind }
+
+abbrev pub body_context : List (List ℕ × ℤ) → Signatures → (input output : ItemType) → Context
+body_context constants helpers input output =
     record {
       constants = constants;
       pops = carries_items input;
-      pushes =
-          carries_items output;
+      pushes = carries_items output;
       prints = true;
       constants_only = false;
+      helpers = Some helpers;
+      returns = None;
     }
 
 -- the side of a filter that a rate speaks of
@@ -448,45 +555,80 @@ pub record Work : Type 0 where
   pub rates : List tree.Rate
   pub block : tree.Stmts
 
-abbrev pub work_resolved : (constants : List (List ℕ × ℤ)) (input output : ItemType)
-    (fields : TypedNames) → Work → Result Work LowerError
-work_resolved constants input output fields work =
+abbrev pub work_resolved : (constants : List (List ℕ × ℤ)) (helpers : Signatures)
+    (input output : ItemType) (fields : TypedNames) → Work → Result Work LowerError
+work_resolved constants helpers input output fields work =
     result_and_then (rates_resolved constants fields input output work.rates) (λ rates'.
-    result_and_then (body_resolved (body_context constants input output) fields work.block)
+    result_and_then (body_resolved (body_context constants helpers input output) fields work.block)
     (λ block'.
     Ok (record { rates = rates'; block = block' })))
 
--- a member, with the fields before it; it sees all fields
-abbrev pub member_resolved : (constants : List (List ℕ × ℤ)) (input output : ItemType)
-    (fields : TypedNames) (before : List (List ℕ)) → tree.Member → Result tree.Member LowerError
-member_resolved constants input output fields before (tree.Fields kind variables) =
+-- a parameter, whose name no earlier one has
+abbrev pub parameter_resolved : TypedNames → (outer : ℕ) → List ℕ → Result (List ℕ) LowerError
+parameter_resolved names outer name =
+    where_kept (not (is_taken names outer name)) (Ok name)
+
+-- the parameters of a helper function
+abbrev pub parameters_resolved : TypedNames → (outer : ℕ) → List (List ℕ)
+    → Result (List (List ℕ)) LowerError
+parameters_resolved names outer [] = Ok []
+parameters_resolved names outer (first ∷ rest) =
+    result_and_then (parameter_resolved names outer first) (λ first'.
+    result_and_then (parameters_resolved (record { 0 = first; 1 = Int } ∷ names) outer rest)
+    (λ rest'. Ok (first' ∷ rest')))
+
+-- a helper function, whose name no earlier one has. Its block is inside its parameters, and they
+-- are inside the fields
+abbrev pub helper_resolved : (constants : List (List ℕ × ℤ)) (helpers : Signatures)
+    (fields : TypedNames) (known : List (List ℕ)) → HelperType → List ℕ
+    → (parameters : List (List ℕ)) → tree.Stmts → Result tree.Member LowerError
+helper_resolved constants helpers fields known kind name parameters block =
+    where_kept (not (has_name known name))
+    (result_and_then (parameters_resolved fields (length fields) parameters) (λ parameters'.
+    result_and_then (body_resolved (helper_context constants helpers kind)
+    (with_parameters fields parameters) block) (λ block'.
+    Ok (tree.Helper kind name parameters' block'))))
+
+-- the names of the helper functions after a member
+abbrev pub known_after : List (List ℕ) → tree.Member → List (List ℕ)
+known_after known (tree.Helper kind name parameters block) = name ∷ known
+known_after known _ = known
+
+-- a member, with the fields and the helper functions before it; it sees all of them
+abbrev pub member_resolved : (constants : List (List ℕ × ℤ)) (helpers : Signatures)
+    (input output : ItemType) (fields : TypedNames) (before known : List (List ℕ)) → tree.Member
+    → Result tree.Member LowerError
+member_resolved constants helpers input output fields before known (tree.Fields kind variables) =
     result_and_then (type_resolved constants fields kind) (λ resolved.
-    result_and_then (fields_resolved (init_context constants) fields before resolved.kind variables)
-    (λ variables'.
+    result_and_then (fields_resolved (start_context constants helpers) fields before resolved.kind
+    variables) (λ variables'.
     Ok (tree.Fields resolved.written variables')))
-member_resolved constants input output fields before (tree.Init block) =
-    result_and_then (body_resolved (init_context constants) fields block)
+member_resolved constants helpers input output fields before known (tree.Init block) =
+    result_and_then (body_resolved (start_context constants helpers) fields block)
     (λ block'. Ok (tree.Init block'))
-member_resolved constants input output fields before (tree.Prework rates block) =
-    result_and_then (work_resolved constants input output fields
+member_resolved constants helpers input output fields before known (tree.Prework rates block) =
+    result_and_then (work_resolved constants helpers input output fields
     (record { rates = rates; block = block })) (λ work'.
     Ok (tree.Prework work'.rates work'.block))
-member_resolved constants input output fields before (tree.Work rates block) =
-    result_and_then (work_resolved constants input output fields
+member_resolved constants helpers input output fields before known (tree.Work rates block) =
+    result_and_then (work_resolved constants helpers input output fields
     (record { rates = rates; block = block })) (λ work'.
     Ok (tree.Work work'.rates work'.block))
-member_resolved constants input output fields before (tree.Helper kind name parameters block) =
-    Err refused.TypeMismatch
+member_resolved constants helpers input output fields before known
+    (tree.Helper kind name parameters block) =
+    helper_resolved constants helpers fields known kind name parameters block
 
 -- the members, in order of the text
-abbrev pub members_resolved : (constants : List (List ℕ × ℤ)) (input output : ItemType)
-    (fields : TypedNames) (before : List (List ℕ)) → List tree.Member
-    → Result (List tree.Member) LowerError
-members_resolved constants input output fields before [] = Ok []
-members_resolved constants input output fields before (first ∷ rest) =
-    result_and_then (member_resolved constants input output fields before first) (λ first'.
-    result_and_then (members_resolved constants input output fields
-    (fields_after before first) rest) (λ rest'. Ok (first' ∷ rest')))
+abbrev pub members_resolved : (constants : List (List ℕ × ℤ)) (helpers : Signatures)
+    (input output : ItemType) (fields : TypedNames) (before known : List (List ℕ))
+    → List tree.Member → Result (List tree.Member) LowerError
+members_resolved constants helpers input output fields before known [] = Ok []
+members_resolved constants helpers input output fields before known (first ∷ rest) =
+    result_and_then (member_resolved constants helpers input output fields before known first)
+    (λ first'.
+    result_and_then (members_resolved constants helpers input output fields
+    (fields_after before first) (known_after known first) rest) (λ rest'.
+    Ok (first' ∷ rest')))
 
 -- how many preworks there are
 abbrev pub prework_count : List tree.Member → ℕ
@@ -515,6 +657,6 @@ has_parts members = (work_count members == 1)
 abbrev pub filter_resolved : List (List ℕ × ℤ) → Filter → Result Filter LowerError
 filter_resolved constants filter =
     where_kept (has_parts filter.members)
-    (result_and_then (members_resolved constants filter.input filter.output
-    (names_after_fields [] filter.members) [] filter.members) (λ members'.
+    (result_and_then (members_resolved constants (signatures_after [] filter.members) filter.input
+    filter.output (names_after_fields [] filter.members) [] [] filter.members) (λ members'.
     Ok (record filter { members = members' })))

@@ -1,7 +1,10 @@
 -- How code answers a judgement: with what it gives, or with its refusal, or because memory ran out.
 use Rattle.std.specs.Prelude.{◌≡◌, map, Result, Ok, Err, Vec}
+use Rattle.std.specs.Option.{option_map}
 use Rattle.std.specs.declared.alloc.Global.{Global}
 use Rattle.strc_syntax.specs.View.{expr_view, type_view, rate_view, block_view}
+use Rattle.strc_base.specs.declared.name.Name.{Name}
+use Rattle.strc_syntax.specs.declared.tree.Expr.{Expr}
 use Rattle.strc_syntax.specs.declared.tree.Stmt.{Stmt}
 use Rattle.strc_syntax.specs.declared.tree.Variable.{Variable}
 use Rattle.strc_syntax.specs.declared.tree.RateTree.{RateTree}
@@ -11,6 +14,7 @@ use Rattle.strc_check.specs.declared.resolution.ResolvedWork.{ResolvedWork}
 use Rattle.strc_check.specs.declared.context.Context.{Context}
 use Rattle.strc_check.specs.declared.type_rules.ResolvedType.{ResolvedType}
 use Rattle.strc_check.specs.declared.typed.Typed.{Typed}
+use Rattle.strc_check.specs.declared.typed.Called.{Called}
 use Rattle.strc_check.specs.Resolution as judged
 
 -- the judgement's refusal, if it isn't out of memory
@@ -18,6 +22,7 @@ abbrev pub IsRefusal : {A : Type 0} → Result A LowerError → LowerError → T
 IsRefusal expected (refused.UnknownName name) = expected ≡ Err (refused.UnknownName name)
 IsRefusal expected refused.TypeMismatch = expected ≡ Err refused.TypeMismatch
 IsRefusal expected (refused.ConstFault cause) = expected ≡ Err (refused.ConstFault cause)
+IsRefusal expected refused.BadArguments = expected ≡ Err refused.BadArguments
 IsRefusal expected refused.NoMemory = Unit {0}
 
 -- the answer x is the judgement's, seen by a view
@@ -33,11 +38,17 @@ context_of context = record {
   pushes = context.pushes;
   prints = context.prints;
   constants_only = context.constants_only;
+  helpers = option_map (λ helpers. helpers.now) context.helpers;
+  returns = context.returns;
 }
 
 -- a typed expression as the judgement sees it
 abbrev pub typed_view : Typed → judged.Typed
 typed_view typed = record { kind = typed.kind; value = expr_view typed.value }
+
+-- a call as the judgement sees it
+abbrev pub called_view : Called → judged.Called
+called_view called = record { kind = called.kind; call = expr_view called.call }
 
 -- a declared type as the judgement sees it
 abbrev pub declared_view : ResolvedType → judged.ResolvedType
@@ -60,3 +71,10 @@ VariableList = Vec Variable Global
 
 abbrev pub RateList : Type 0
 RateList = Vec RateTree Global
+
+-- a list of arguments, and of parameters' names
+abbrev pub ExprList : Type 0
+ExprList = Vec Expr Global
+
+abbrev pub NameList : Type 0
+NameList = Vec Name Global

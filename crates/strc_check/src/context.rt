@@ -3,12 +3,18 @@
 ghost use Rattle.std.specs.Prelude.{◌≡◌};
 ghost use Rattle.strc_check.specs.Resolution as judged;
 ghost use Rattle.strc_check.specs.Verdicts.{context_of};
+ghost use Rattle.strc_check.specs.declared.error.LowerErrorKind.TheVariants as refused;
 
-use crate::constants::Constants;
-use strc_syntax::tree::ItemType;
+use crate::error::LowerError;
+use crate::signatures::Signature;
+use crate::site::Mismatch;
+use strc_base::scope_map::ScopeMap;
+use strc_semantics::constants::Constants;
+use strc_syntax::tree::{HelperType, ItemType};
 
 /// Where a text is: its constants, whether it may pop and peek, push and print, and whether it
-/// is fixed before the start, so that it reads no variable.
+/// is fixed before the start, so that it reads no variable; the helper functions that it may call,
+/// if it may call any; and in a helper function what that gives.
 #[derive(Drop)]
 pub struct Context<'a> {
     pub constants: &'a Constants,
@@ -16,9 +22,11 @@ pub struct Context<'a> {
     pub pushes: bool,
     pub prints: bool,
     pub constants_only: bool,
+    pub helpers: Option<&'a ScopeMap<Signature>>,
+    pub returns: Option<HelperType>,
 }
 
-/// The context of initialisers and of `init`, and of the block of a composite stream.
+/// The context of the block of a composite stream.
 pub fn init_context(constants: &Constants) -> Context
     ensures { context_of result ≡ judged.init_context constants.now }
 {
@@ -28,12 +36,53 @@ pub fn init_context(constants: &Constants) -> Context
         pushes: false,
         prints: false,
         constants_only: false,
+        helpers: None,
+        returns: None,
+    }
+}
+
+/// The context of initialisers and of `init`.
+pub fn start_context<'a>(constants: &'a Constants, helpers: &'a ScopeMap<Signature>) -> Context<'a>
+    ensures { context_of result ≡ judged.start_context constants.now helpers.now }
+{
+    Context {
+        constants,
+        pops: false,
+        pushes: false,
+        prints: false,
+        constants_only: false,
+        helpers: Some(helpers),
+        returns: None,
+    }
+}
+
+/// The context of a helper function.
+pub fn helper_context<'a>(
+    constants: &'a Constants,
+    helpers: &'a ScopeMap<Signature>,
+    kind: HelperType,
+) -> Context<'a>
+    ensures { context_of result ≡ judged.helper_context constants.now helpers.now kind }
+{
+    Context {
+        constants,
+        pops: false,
+        pushes: false,
+        prints: false,
+        constants_only: false,
+        helpers: Some(helpers),
+        returns: Some(kind),
     }
 }
 
 /// The context of a body.
-pub fn body_context(constants: &Constants, input: ItemType, output: ItemType) -> Context
-    ensures { context_of result ≡ judged.body_context constants.now input output }
+pub fn body_context<'a>(
+    constants: &'a Constants,
+    helpers: &'a ScopeMap<Signature>,
+    input: ItemType,
+    output: ItemType,
+) -> Context<'a>
+    ensures { context_of result ≡ judged.body_context constants.now helpers.now input output }
 {
     Context {
         constants,
@@ -41,6 +90,8 @@ pub fn body_context(constants: &Constants, input: ItemType, output: ItemType) ->
         pushes: carries_items(output),
         prints: true,
         constants_only: false,
+        helpers: Some(helpers),
+        returns: None,
     }
 }
 
@@ -54,6 +105,19 @@ pub fn rate_context(constants: &Constants) -> Context
         pushes: false,
         prints: false,
         constants_only: true,
+        helpers: None,
+        returns: None,
+    }
+}
+
+/// The refusal where items may not flow or words may not be printed, in a filter's own text for
+/// this reason.
+pub fn no_flow(context: &Context, reason: Mismatch) -> LowerError
+    ensures { result ≡ refused.TypeMismatch }
+{
+    match context.returns {
+        Some(_) => LowerError::mismatch(Mismatch::FlowInHelper),
+        None => LowerError::mismatch(reason),
     }
 }
 

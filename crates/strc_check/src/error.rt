@@ -33,6 +33,9 @@ pub enum LowerErrorKind {
     /// A number that must be known faults when it is computed, or can't be the length of an array.
     #[error("a number that must be known faults, or can't be the length of an array: {cause}")]
     ConstFault { cause: Cause },
+    /// A call has another number of arguments than its helper function has parameters.
+    #[error("a call has another number of arguments than its helper function takes")]
+    BadArguments,
     /// Memory was refused.
     #[error("out of memory")]
     NoMemory,
@@ -74,6 +77,16 @@ impl LowerError {
     {
         LowerError {
             kind: LowerErrorKind::ConstFault { cause },
+            site: Site::unknown(),
+        }
+    }
+
+    /// A call has another number of arguments than its helper function has parameters.
+    pub fn bad_arguments() -> LowerError
+        ensures { result ≡ refused.BadArguments }
+    {
+        LowerError {
+            kind: LowerErrorKind::BadArguments,
             site: Site::unknown(),
         }
     }

@@ -2,22 +2,26 @@
 
 ghost use Rattle.std.specs.Prelude.{◌≡◌};
 ghost use Rattle.std.specs.Option.{option_map};
-ghost use Rattle.strc_syntax.specs.View.{expr_view};
+ghost use Rattle.strc_syntax.specs.View.{expr_view, listed_view};
+ghost use Rattle.strc_syntax.specs.declared.tree.HelperType.{HelperType as HelperKind};
 ghost use Rattle.strc_check.specs.Resolution as judged;
-ghost use Rattle.strc_check.specs.Verdicts.{IsVerdict, context_of, typed_view};
+ghost use Rattle.strc_check.specs.Verdicts.{IsVerdict, context_of, called_view, typed_view};
+ghost use Rattle.strc_check.specs.Verdicts.{ExprList};
 
-use crate::context::Context;
+use crate::context::{self, Context};
 use crate::error::LowerError;
+use crate::kept::push_next;
 use crate::site::Mismatch;
-use crate::typed::{self, Typed};
-use crate::typed_scope::TypedScope;
-use crate::types::{self, ValueType};
+use crate::typed::{self, Called, Typed};
 use crate::writes;
 use std::alloc::Global;
 use strc_base::name::Name;
-use strc_syntax::tree::Expr;
+use strc_semantics::typed_scope::TypedScope;
+use strc_semantics::types::{self, ValueType};
+use strc_syntax::tree::{Expr, HelperType};
 
 /// An expression, among these names of variables.
+#[cycle(expression)]
 pub fn resolve_expr(
     alloc: Global,
     context: &Context,
@@ -42,15 +46,18 @@ pub fn resolve_expr(
         }
         Expr::Pop => {
             if !context.pops {
-                return Err(LowerError::mismatch(Mismatch::NoInput));
+                return Err(context::no_flow(context, Mismatch::NoInput));
             }
             Ok(typed::number(Expr::Pop))
         }
         Expr::Peek(index) => {
             let index = resolve_expr(alloc, context, names, index)?;
-            typed::peek(alloc, context.pops, index)
+            typed::peek(alloc, context, index)
         }
-        Expr::Call(_, _) => Err(LowerError::mismatch(Mismatch::HelperFunction)),
+        Expr::Call(name, arguments) => {
+            let called = resolve_call(alloc, context, names, name, arguments)?;
+            typed::value_called(called)
+        }
         Expr::Group(inner) => {
             let inner = resolve_expr(alloc, context, names, inner)?;
             typed::group(alloc, inner)
@@ -82,7 +89,91 @@ pub fn resolve_expr(
     }
 }
 
+/// A call of a helper function.
+#[cycle(expression)]
+fn resolve_call(
+    alloc: Global,
+    context: &Context,
+    names: &TypedScope,
+    name: &Name,
+    arguments: &[Expr],
+) -> Result<Called, LowerError>
+    ensures { IsVerdict called_view
+        (judged.call_resolved (context_of context.now) names.now name.now
+        (listed_view arguments.now))
+        result }
+{
+    let kind = called_kind(context, name, arguments.len())?;
+    let arguments = resolve_arguments(alloc, context, names, arguments)?;
+    let name = name.copy()?;
+    Ok(Called {
+        kind,
+        call: Expr::Call(name, arguments),
+    })
+}
+
+/// The arguments of a call, from left to right.
+#[cycle(expression)]
+fn resolve_arguments(
+    alloc: Global,
+    context: &Context,
+    names: &TypedScope,
+    arguments: &[Expr],
+) -> Result<Vec<Expr>, LowerError>
+    ensures { IsVerdict (λ (resolved : ExprList). listed_view resolved.items)
+        (judged.arguments_resolved (context_of context.now) names.now (listed_view arguments.now))
+        result }
+{
+    let mut resolved = Vec::new(alloc);
+    for argument in arguments {
+        let next = resolve_as(alloc, context, names, ValueType::Int, argument);
+        push_next(&mut resolved, next)?;
+    }
+    Ok(resolved)
+}
+
+/// What a helper function of this name gives, that takes so many arguments, where calls may stand.
+fn called_kind(context: &Context, name: &Name, count: usize) -> Result<HelperType, LowerError>
+    ensures { IsVerdict (λ (kind : HelperKind). kind)
+        (judged.called_among name.now count (context_of context.now).helpers)
+        result }
+{
+    let refusal = match context.helpers {
+        None => LowerError::mismatch(Mismatch::NoCalls),
+        Some(helpers) => match helpers.value_of(name) {
+            None => LowerError::unknown(name.copy()?),
+            Some(signature) => {
+                if signature.parameters == count {
+                    return Ok(signature.kind);
+                }
+                LowerError::bad_arguments()
+            }
+        },
+    };
+    Err(refusal.or_at(name.place()))
+}
+
+/// An expression that is a statement: a call may give nothing there.
+pub fn resolve_evaluated(
+    alloc: Global,
+    context: &Context,
+    names: &TypedScope,
+    value: &Expr,
+) -> Result<Expr, LowerError>
+    ensures { IsVerdict expr_view
+        (judged.evaluated (context_of context.now) names.now (expr_view value.now))
+        result }
+{
+    if let Expr::Call(name, arguments) = value {
+        let called = resolve_call(alloc, context, names, name, arguments)?;
+        return Ok(called.call);
+    }
+    let typed = resolve_expr(alloc, context, names, value)?;
+    Ok(typed.value)
+}
+
 /// An expression of this type.
+#[cycle(expression)]
 pub fn resolve_as(
     alloc: Global,
     context: &Context,

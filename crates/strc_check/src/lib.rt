@@ -5,19 +5,18 @@
 // Stands on strc_semantics, whose constant values it computes, on strc_syntax and strc_base.
 #![tactic(auto)]
 
-pub mod constants;
 pub mod context;
 pub mod error;
 pub mod expression_rules;
+mod helpers;
 mod kept;
 mod parts;
 mod rates;
 pub mod resolution;
+pub mod signatures;
 pub mod site;
 pub mod spelled;
 pub mod statement_rules;
 pub mod type_rules;
 mod typed;
-pub mod typed_scope;
-pub mod types;
 mod writes;

@@ -5,15 +5,15 @@ ghost use Rattle.strc_syntax.specs.View.{expr_view, rate_view};
 ghost use Rattle.strc_check.specs.Resolution as judged;
 ghost use Rattle.strc_check.specs.Verdicts.{IsVerdict, RateList};
 
-use crate::constants::Constants;
 use crate::error::{LowerError, placed};
 use crate::kept::push_next;
 use crate::site::Mismatch;
-use crate::typed_scope::TypedScope;
-use crate::types::ValueType;
 use crate::{context, expression_rules};
 use std::alloc::Global;
+use strc_semantics::constants::Constants;
 use strc_semantics::evaluation;
+use strc_semantics::typed_scope::TypedScope;
+use strc_semantics::types::ValueType;
 use strc_syntax::tree::{Expr, ItemType, RateKind, RateTree};
 
 /// The rates of a body.

@@ -1,28 +1,30 @@
 // The rules on names and types of filters. A tree that keeps them is copied with its constants
 // substituted.
 
-ghost use Rattle.std.specs.Prelude.{◌≡◌, IfOk, OnOk, Vec, [], ◌∷◌, map};
+ghost use Rattle.std.specs.Prelude.{◌≡◌, ℕ, List, IfOk, OnOk, Vec, [], ◌∷◌, map};
 ghost use Rattle.std.specs.declared.alloc.Global.{Global as Memory};
 ghost use Rattle.strc_syntax.specs.declared.tree.Member.{Member as MemberTree};
 ghost use Rattle.strc_syntax.specs.Tree as tree;
 ghost use Rattle.strc_syntax.specs.View.{variable_view, member_view, rate_view, block_view};
 ghost use Rattle.strc_syntax.specs.View.{type_view};
 ghost use Rattle.strc_semantics.specs.Filters.{filter_of, filter_parts, members_of};
-ghost use Rattle.strc_check.specs.Typing as typing;
+ghost use Rattle.strc_semantics.specs.Typing as typing;
 ghost use Rattle.strc_check.specs.Resolution as judged;
 ghost use Rattle.strc_check.specs.Verdicts.{IsVerdict, context_of, work_view, VariableList};
 
-use crate::constants::Constants;
 use crate::context::{self, Context};
 use crate::error::{LowerError, placed};
 use crate::kept::push_next;
+use crate::signatures::{self, Signature};
 use crate::site::Mismatch;
-use crate::typed_scope::TypedScope;
-use crate::types::{self, ValueType};
-use crate::{expression_rules, parts, rates, statement_rules, type_rules};
+use crate::{expression_rules, helpers, parts, rates, statement_rules, type_rules};
 use std::alloc::Global;
 use strc_base::memory::NoMemory;
 use strc_base::scope::Scope;
+use strc_base::scope_map::ScopeMap;
+use strc_semantics::constants::Constants;
+use strc_semantics::typed_scope::TypedScope;
+use strc_semantics::types::{self, ValueType};
 use strc_syntax::tree::{FilterTree, ItemType, Member, RateTree, Stmt, Variable, Variables};
 
 /// A body with its constants substituted.
@@ -47,8 +49,17 @@ pub fn resolve_filter(
     if !parts::has_parts(members) {
         return Err(LowerError::mismatch(parts::broken_rule(members)));
     }
+    let helpers = signatures::signatures_of(alloc, members)?;
     let mut fields = typed_fields(alloc, members)?;
-    let members = resolve_members(alloc, input, output, constants, &mut fields, members)?;
+    let members = resolve_members(
+        alloc,
+        input,
+        output,
+        constants,
+        &helpers,
+        &mut fields,
+        members,
+    )?;
     Ok(FilterTree {
         input,
         output,
@@ -56,23 +67,36 @@ pub fn resolve_filter(
     })
 }
 
-/// The members, in order of the text. They see all fields.
+/// The members, in order of the text. They see all fields, and call all helper functions.
 fn resolve_members(
     alloc: Global,
     input: ItemType,
     output: ItemType,
     constants: &Constants,
+    helpers: &ScopeMap<Signature>,
     fields: &mut TypedScope,
     members: &[Member],
 ) -> Result<Vec<Member>, LowerError>
     ensures { IsVerdict (λ (resolved : Vec MemberTree Memory). members_of resolved.items)
-        (judged.members_resolved constants.now input output fields.old [] (members_of members.now))
+        (judged.members_resolved constants.now helpers.now input output fields.old [] []
+        (members_of members.now))
         result }
 {
     let mut before = Scope::new(alloc);
+    let mut known = Scope::new(alloc);
     let mut resolved = Vec::new(alloc);
     for member in members {
-        let next = resolve_member(alloc, input, output, constants, fields, &mut before, member);
+        let next = resolve_member(
+            alloc,
+            input,
+            output,
+            constants,
+            helpers,
+            fields,
+            &mut before,
+            &mut known,
+            member,
+        );
         push_next(&mut resolved, next)?;
     }
     Ok(resolved)
@@ -110,42 +134,56 @@ fn declare_typed(
     Ok(())
 }
 
+/// A member, with the fields and the helper functions before it.
 fn resolve_member(
     alloc: Global,
     input: ItemType,
     output: ItemType,
     constants: &Constants,
+    helpers: &ScopeMap<Signature>,
     fields: &mut TypedScope,
     before: &mut Scope,
+    known: &mut Scope,
     member: &Member,
 ) -> Result<Member, LowerError>
     ensures verdict { IsVerdict member_view
-        (judged.member_resolved constants.now input output fields.old before.old
-        (member_view member.now))
+        (judged.member_resolved constants.now helpers.now input output fields.old before.old
+        known.old (member_view member.now))
         result }
     ensures fields { OnOk result (fields.new ≡ fields.old) }
     ensures before { OnOk result (before.new ≡ judged.fields_after before.old
+        (member_view member.now)) }
+    ensures known { OnOk result (known.new ≡ judged.known_after known.old
         (member_view member.now)) }
 {
     match member {
         Member::Fields(declared) => placed(
             Some(declared.place),
-            resolve_declared_fields(alloc, constants, fields, before, declared),
+            resolve_declared_fields(alloc, constants, helpers, fields, before, declared),
         ),
         Member::Init(block) => {
-            let context = context::init_context(constants);
+            let context = context::start_context(constants, helpers);
             let block = statement_rules::resolve_block(alloc, &context, fields, block)?;
             Ok(Member::Init(block))
         }
         Member::Prework(rates, block) => {
-            let work = resolve_work(alloc, input, output, constants, fields, rates, block)?;
+            let work = resolve_work(
+                alloc, input, output, constants, helpers, fields, rates, block,
+            )?;
             Ok(Member::Prework(work.rates, work.block))
         }
         Member::Work(rates, block) => {
-            let work = resolve_work(alloc, input, output, constants, fields, rates, block)?;
+            let work = resolve_work(
+                alloc, input, output, constants, helpers, fields, rates, block,
+            )?;
             Ok(Member::Work(work.rates, work.block))
         }
-        Member::Helper(_, _, _, _) => Err(LowerError::mismatch(Mismatch::HelperFunction)),
+        Member::Helper(kind, name, parameters, block) => placed(
+            name.place(),
+            helpers::resolve_helper(
+                alloc, constants, helpers, fields, known, *kind, name, parameters, block,
+            ),
+        ),
     }
 }
 
@@ -153,19 +191,20 @@ fn resolve_member(
 fn resolve_declared_fields(
     alloc: Global,
     constants: &Constants,
+    helpers: &ScopeMap<Signature>,
     fields: &TypedScope,
     before: &mut Scope,
     declared: &Variables,
 ) -> Result<Member, LowerError>
-    ensures verdict { (input output : ItemType) → IsVerdict member_view
-        (judged.member_resolved constants.now input output fields.now before.old
+    ensures verdict { (input output : ItemType) (known : List (List ℕ)) → IsVerdict member_view
+        (judged.member_resolved constants.now helpers.now input output fields.now before.old known
         (tree.Fields (type_view declared.now.kind)
         (map variable_view declared.now.variables.items)))
         result }
     ensures before { OnOk result (before.new ≡ typing.names_with before.old
         (map variable_view declared.now.variables.items)) }
 {
-    let context = context::init_context(constants);
+    let context = context::start_context(constants, helpers);
     let resolved = type_rules::resolve_type(alloc, constants, fields, &declared.kind)?;
     let variables = resolve_fields(
         alloc,
@@ -243,18 +282,19 @@ fn resolve_work(
     input: ItemType,
     output: ItemType,
     constants: &Constants,
+    helpers: &ScopeMap<Signature>,
     fields: &mut TypedScope,
     rates: &[RateTree],
     block: &[Stmt],
 ) -> Result<ResolvedWork, LowerError>
     ensures verdict { IsVerdict work_view
-        (judged.work_resolved constants.now input output fields.old
+        (judged.work_resolved constants.now helpers.now input output fields.old
         (record { rates = map rate_view rates.now; block = block_view block.now }))
         result }
     ensures fields { OnOk result (fields.new ≡ fields.old) }
 {
     let rates = rates::resolve_rates(alloc, constants, fields, input, output, rates)?;
-    let context = context::body_context(constants, input, output);
+    let context = context::body_context(constants, helpers, input, output);
     let block = statement_rules::resolve_block(alloc, &context, fields, block)?;
     Ok(ResolvedWork { rates, block })
 }

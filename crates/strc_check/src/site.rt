@@ -1,8 +1,8 @@
 // Which part of a text breaks a rule, and which rule that is. It is for the messages that people
 // read: contracts see nothing of it.
 
-use crate::types::ValueType;
 use strc_base::place::Span;
+use strc_semantics::types::ValueType;
 use strc_syntax::tree::CompositeKind;
 
 /// The part of a text that breaks a rule, and which rule of types, kinds and parts it breaks, as
@@ -73,10 +73,20 @@ pub enum Mismatch {
     NoPrinting,
     /// A rate above 0 on a side without items.
     RateWithoutItems,
-    /// A helper function, or a call of one: they are read, but can't be run yet.
+    /// A helper function: it is read and checked, and not run as yet.
     HelperFunction,
+    /// A call where none may stand: in a rate, in the length of an array, or outside of a filter.
+    NoCalls,
+    /// A call of a helper function that gives nothing, where a value is wanted.
+    NothingGiven,
+    /// `pop`, `peek`, `push` or `print` in a helper function.
+    FlowInHelper,
     /// `return` outside of a helper function.
     NoHelper,
+    /// `return` without a value in a helper function that gives one.
+    ValueMissing,
+    /// `return` with a value in a helper function that gives none.
+    ValueUnwanted,
     /// A statement of composite streams in a filter.
     StreamStatement,
     /// A statement of filters in a composite stream.

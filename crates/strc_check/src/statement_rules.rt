@@ -6,21 +6,21 @@ ghost use Rattle.strc_syntax.specs.Tree as tree;
 ghost use Rattle.strc_syntax.specs.View.{expr_view, type_view, variable_view, stmt_view};
 ghost use Rattle.strc_syntax.specs.View.{block_view};
 ghost use Rattle.strc_syntax.specs.declared.tree.Stmt.TheVariants as stmt;
-ghost use Rattle.strc_check.specs.declared.types.ValueType.{ValueType as Kind};
-ghost use Rattle.strc_check.specs.declared.types.ValueType.TheVariants.{Boolean};
-ghost use Rattle.strc_check.specs.Typing as typing;
+ghost use Rattle.strc_semantics.specs.declared.types.ValueType.{ValueType as Kind};
+ghost use Rattle.strc_semantics.specs.declared.types.ValueType.TheVariants.{Boolean};
+ghost use Rattle.strc_semantics.specs.Typing as typing;
 ghost use Rattle.strc_check.specs.Resolution as judged;
 ghost use Rattle.strc_check.specs.Verdicts.{IsVerdict, context_of, Statements, VariableList};
 
-use crate::context::Context;
+use crate::context::{self, Context};
 use crate::error::{LowerError, placed};
 use crate::kept::{accept_node, push_next};
 use crate::site::Mismatch;
-use crate::typed_scope::TypedScope;
-use crate::types::{self, ValueType};
-use crate::{expression_rules, type_rules, writes};
+use crate::{expression_rules, signatures, type_rules, writes};
 use std::alloc::Global;
 use strc_base::name::Name;
+use strc_semantics::typed_scope::TypedScope;
+use strc_semantics::types::{self, ValueType};
 use strc_syntax::node;
 use strc_syntax::tree::{AssignOperator, Expr, Stmt, Variable, Variables};
 
@@ -71,8 +71,8 @@ pub(crate) fn resolve_stmt(
         }
         Stmt::Declare(declared) => resolve_declared(alloc, context, names, start, declared),
         Stmt::Evaluate(value) => {
-            let typed = expression_rules::resolve_expr(alloc, context, names, value)?;
-            Ok(Stmt::Evaluate(typed.value))
+            let value = expression_rules::resolve_evaluated(alloc, context, names, value)?;
+            Ok(Stmt::Evaluate(value))
         }
         Stmt::Assign(name, operator, value) => {
             resolve_assigned(alloc, context, names, name, *operator, value)
@@ -91,7 +91,7 @@ pub(crate) fn resolve_stmt(
         Stmt::Push(value) => { Ok(Stmt::Push(check_pushed(alloc, context, names, value)?)) }
         Stmt::Print(value) => { Ok(Stmt::Print(check_printed(alloc, context, names, value)?)) }
         Stmt::Println(value) => { Ok(Stmt::Println(check_printed(alloc, context, names, value)?)) }
-        Stmt::Return(_) => Err(LowerError::mismatch(Mismatch::NoHelper)),
+        Stmt::Return(value) => { Ok(Stmt::Return(resolve_returned(alloc, context, names, value)?)) }
         Stmt::Placed(place, inner) => {
             let resolved = resolve_stmt(alloc, context, names, start, inner);
             let statement = placed(Some(*place), resolved)?;
@@ -239,7 +239,7 @@ fn check_pushed(
         result }
 {
     if !context.pushes {
-        return Err(LowerError::mismatch(Mismatch::NoOutput));
+        return Err(context::no_flow(context, Mismatch::NoOutput));
     }
     expression_rules::resolve_as(alloc, context, names, ValueType::Int, value)
 }
@@ -257,9 +257,53 @@ fn check_printed(
         result }
 {
     if !context.prints {
-        return Err(LowerError::mismatch(Mismatch::NoPrinting));
+        return Err(context::no_flow(context, Mismatch::NoPrinting));
     }
     expression_rules::resolve_as(alloc, context, names, ValueType::Int, value)
+}
+
+/// What is returned from a helper function, if this is in one.
+fn resolve_returned(
+    alloc: Global,
+    context: &Context,
+    names: &TypedScope,
+    value: &Option<Expr>,
+) -> Result<Option<Expr>, LowerError>
+    ensures { IsVerdict (option_map expr_view)
+        (judged.returned (context_of context.now) names.now context.now.returns
+        (option_map expr_view value.now))
+        result }
+{
+    match context.returns {
+        None => Err(LowerError::mismatch(Mismatch::NoHelper)),
+        Some(kind) => {
+            let kind = signatures::given_type(kind);
+            resolve_answer(alloc, context, names, kind, value)
+        }
+    }
+}
+
+/// What is returned where this type is wanted, if a value is.
+fn resolve_answer(
+    alloc: Global,
+    context: &Context,
+    names: &TypedScope,
+    wanted: Option<ValueType>,
+    value: &Option<Expr>,
+) -> Result<Option<Expr>, LowerError>
+    ensures { IsVerdict (option_map expr_view)
+        (judged.returned_as (context_of context.now) names.now wanted
+        (option_map expr_view value.now))
+        result }
+{
+    match (wanted, value) {
+        (None, None) => Ok(None),
+        (None, Some(_)) => Err(LowerError::mismatch(Mismatch::ValueUnwanted)),
+        (Some(_), None) => Err(LowerError::mismatch(Mismatch::ValueMissing)),
+        (Some(kind), Some(_)) => {
+            expression_rules::resolve_initial(alloc, context, names, kind, value)
+        }
+    }
 }
 
 /// An assignment to a variable.
@@ -373,6 +417,14 @@ fn resolve_variables(
     Ok(resolved)
 }
 
+/// Whether a name is taken in a block. No name of a text is empty: that is the name of a helper
+/// function's answer.
+pub(crate) fn is_taken(names: &TypedScope, start: usize, name: &Name) -> bool
+    ensures { result ≡ judged.is_taken names.now start name.now }
+{
+    name.as_bytes().is_empty() || names.has_since(start, name)
+}
+
 /// A variable, whose name no other one of its block has.
 fn resolve_variable(
     alloc: Global,
@@ -383,13 +435,13 @@ fn resolve_variable(
     variable: &Variable,
 ) -> Result<Variable, LowerError>
     ensures verdict { IsVerdict variable_view
-        (judged.variable_resolved (context_of context.now) names.old start kind
+        (judged.local_resolved (context_of context.now) names.old start kind
         (variable_view variable.now))
         result }
     ensures names { OnOk result (names.new ≡ record { 0 = variable.now.name; 1 = kind }
         ∷ names.old) }
 {
-    if names.has_since(start, &variable.name) {
+    if is_taken(names, start, &variable.name) {
         let twice = LowerError::mismatch(Mismatch::DeclaredTwice);
         return Err(twice.or_at(variable.name.place()));
     }

@@ -2,18 +2,18 @@
 
 ghost use Rattle.std.specs.Prelude.{◌≡◌, IfOk};
 ghost use Rattle.strc_syntax.specs.View.{type_view};
-ghost use Rattle.strc_check.specs.Typing as typing;
-ghost use Rattle.strc_check.specs.declared.types.ValueType.TheVariants.{Array};
+ghost use Rattle.strc_semantics.specs.Typing as typing;
+ghost use Rattle.strc_semantics.specs.declared.types.ValueType.TheVariants.{Array};
 ghost use Rattle.strc_check.specs.Resolution as judged;
 ghost use Rattle.strc_check.specs.Verdicts.{IsVerdict, declared_view};
 
-use crate::constants::Constants;
 use crate::error::LowerError;
 use crate::rates;
-use crate::typed_scope::TypedScope;
-use crate::types::ValueType;
 use std::alloc::Global;
+use strc_semantics::constants::Constants;
 use strc_semantics::fault::Cause;
+use strc_semantics::typed_scope::TypedScope;
+use strc_semantics::types::ValueType;
 use strc_syntax::tree::{Expr, VariableType};
 
 /// How many elements an array may have.

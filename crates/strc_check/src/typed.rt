@@ -3,22 +3,44 @@
 ghost use Rattle.std.specs.Prelude.{◌≡◌};
 ghost use Rattle.strc_syntax.specs.View.{expr_view};
 ghost use Rattle.strc_check.specs.Resolution as judged;
-ghost use Rattle.strc_check.specs.declared.types.ValueType.TheVariants.{Int};
-ghost use Rattle.strc_check.specs.Verdicts.{IsVerdict, typed_view};
+ghost use Rattle.strc_semantics.specs.declared.types.ValueType.TheVariants.{Int};
+ghost use Rattle.strc_check.specs.Verdicts.{IsVerdict, called_view, typed_view};
 
+use crate::context::{self, Context};
 use crate::error::LowerError;
+use crate::signatures;
 use crate::site::Mismatch;
-use crate::types::{self, ValueType};
 use std::alloc::Global;
 use strc_base::name::Name;
+use strc_semantics::types::{self, ValueType};
 use strc_syntax::node;
-use strc_syntax::tree::{BinaryOperator, Expr, StepOperator, UnaryOperator};
+use strc_syntax::tree::{BinaryOperator, Expr, HelperType, StepOperator, UnaryOperator};
 
 /// An expression with its constants substituted, and the type of its value.
 #[derive(Drop)]
 pub struct Typed {
     pub kind: ValueType,
     pub value: Expr,
+}
+
+/// A call with its constants substituted, and what it gives.
+#[derive(Drop)]
+pub struct Called {
+    pub kind: HelperType,
+    pub call: Expr,
+}
+
+/// What a call gives, as a value.
+pub fn value_called(called: Called) -> Result<Typed, LowerError>
+    ensures { IsVerdict typed_view (judged.called_typed (called_view called)) result }
+{
+    match signatures::given_type(called.kind) {
+        Some(kind) => Ok(Typed {
+            kind,
+            value: called.call,
+        }),
+        None => Err(LowerError::mismatch(Mismatch::NothingGiven)),
+    }
 }
 
 /// An expression whose value is a number.
@@ -52,11 +74,11 @@ pub fn group(alloc: Global, inner: Typed) -> Result<Typed, LowerError>
 }
 
 /// A look at an item, where one may pop.
-pub fn peek(alloc: Global, pops: bool, index: Typed) -> Result<Typed, LowerError>
-    ensures { IsVerdict typed_view (judged.peek_typed pops (typed_view index)) result }
+pub fn peek(alloc: Global, context: &Context, index: Typed) -> Result<Typed, LowerError>
+    ensures { IsVerdict typed_view (judged.peek_typed context.now.pops (typed_view index)) result }
 {
-    if !pops {
-        return Err(LowerError::mismatch(Mismatch::NoInput));
+    if !context.pops {
+        return Err(context::no_flow(context, Mismatch::NoInput));
     }
     let index = expect_type(ValueType::Int, index)?;
     Ok(Typed {

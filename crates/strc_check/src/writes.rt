@@ -7,9 +7,9 @@ ghost use Rattle.strc_check.specs.Verdicts.{IsVerdict, context_of};
 use crate::context::Context;
 use crate::error::LowerError;
 use crate::site::Mismatch;
-use crate::typed_scope::TypedScope;
-use crate::types::{self, ValueType};
 use strc_base::name::Name;
+use strc_semantics::typed_scope::TypedScope;
+use strc_semantics::types::{self, ValueType};
 
 /// The type of a name that is written: that of its innermost variable. A constant isn't written.
 pub fn resolve_written(

@@ -5,3 +5,4 @@ pub mod Cycles
 pub mod Lines
 pub mod Totals
 pub mod ClosedBodies
+pub mod HelperRooms

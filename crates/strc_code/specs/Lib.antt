@@ -8,3 +8,4 @@ pub mod Code
 pub mod Flat
 pub mod Lowering
 pub mod Lowered
+pub mod Helpers

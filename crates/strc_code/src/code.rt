@@ -11,6 +11,7 @@ ghost use Rattle.strc_semantics.specs.declared.body.Body.TheVariants as bodied;
 ghost use Rattle.strc_interval.specs.Stateless as writes;
 
 use crate::bodies;
+use crate::helper::{HelperCode, room_for_calls, room_to_save};
 use crate::limits::FiringLimits;
 use crate::node::Node;
 use crate::stateless::is_stateless;
@@ -46,16 +47,19 @@ impl Model for Code {
     ghost view = { λ c. arc_value c.lowered };
 }
 
-/// What lowering made of a filter: its tree, the routines of its start and its bodies, how many
-/// slots its fields take, and how many all that it runs needs, and whether it has no state.
+/// What lowering made of a filter: its tree, the routines of its start and its bodies, the code of
+/// its helper functions, how many slots its fields take, all that it runs needs and its callers'
+/// locals need, and whether it has no state.
 #[derive(Drop)]
 struct Lowered {
     tree: FilterTree,
     start: Routine,
     prework: Option<Routine>,
     work: Routine,
+    helpers: Vec<HelperCode>,
     fields: usize,
     slots: usize,
+    saved: usize,
     stateless: bool,
 }
 
@@ -72,8 +76,8 @@ impl Model for Lowered {
 
     ghost view = { λ c. c.tree };
 
-    ghost invariant = { λ c. IsLowered c.tree c.start c.prework c.work c.fields c.slots
-        c.stateless };
+    ghost invariant = { λ c. IsLowered c.tree c.start c.prework c.work c.helpers.items c.fields
+        c.slots c.saved c.stateless };
 }
 
 /// A body's code, its flat form, which is what is run, and what it may pop, look at and push.
@@ -99,6 +103,7 @@ impl Code {
     ghost use Rattle.strc_code.specs.Lowering.{start_nodes, body_nodes};
     ghost use Rattle.strc_code.specs.Lowering as lowering;
     ghost use Rattle.strc_semantics.specs.Closed.{IsClosedFilter};
+    ghost use Rattle.strc_code.specs.Helpers.{AreHelpers, saved_count};
 
     /// The code of a resolved tree and its parts.
     pub fn of_parts(
@@ -108,6 +113,7 @@ impl Code {
         start: Routine,
         prework: Option<Routine>,
         work: Routine,
+        helpers: Vec<HelperCode>,
     ) -> Result<Code, NoMemory>
         requires fields { fields ≡ total (filters.sized_fields (filters.filter_of tree).members) }
         requires start { code_of start.code ≡ start_nodes (filters.filter_of tree) }
@@ -122,24 +128,26 @@ impl Code {
             ≡ limits_of (filters.body_rates bodied.Prework (filters.filter_of tree).members) }
         requires work_limits { work.limits
             ≡ limits_of (filters.body_rates bodied.Work (filters.filter_of tree).members) }
+        requires helpers { AreHelpers (lowering.field_scope (filters.filter_of tree))
+            (filters.filter_of tree).members helpers.items }
         requires closed { IsClosedFilter (filters.filter_of tree) }
         ensures { IfOk result (λ code. code ≡ tree) }
     {
         let stateless = is_stateless(alloc, &tree)?;
         let first = first_of(&prework, &work).code.slot_count();
-        let slots = fields.max(
-            start
-                .code
-                .slot_count()
-                .max(first.max(work.code.slot_count())),
-        );
+        let calls = room_for_calls(&tree, &helpers);
+        let later = work.code.slot_count().max(calls);
+        let slots = fields.max(start.code.slot_count().max(first.max(later)));
+        let saved = room_to_save(fields, slots, calls)?;
         let lowered = Lowered {
             tree,
             start,
             prework,
             work,
+            helpers,
             fields,
             slots,
+            saved,
             stateless,
         };
         Ok(Code {
@@ -243,6 +251,21 @@ impl Code {
         ensures { result ≡ lowering.slot_count (filters.filter_of self.now) }
     {
         self.lowered().slots
+    }
+
+    /// How many slots the locals of callers need that wait for their calls.
+    pub fn saved_count(&self) -> usize
+        ensures { result ≡ saved_count (filters.filter_of self.now) }
+    {
+        self.lowered().saved
+    }
+
+    /// The code of the helper functions, in order.
+    pub fn helpers(&self) -> &[HelperCode]
+        ensures { AreHelpers (lowering.field_scope (filters.filter_of self.now))
+            (filters.filter_of self.now).members result.now }
+    {
+        &self.lowered().helpers
     }
 
     /// The routine of the start: the fields' initialisers in order, and then `init`.

@@ -7,9 +7,12 @@
 #![tactic(auto)]
 
 pub mod bodies;
+pub mod call;
 pub mod code;
 pub mod condition;
+pub mod helper;
 pub mod inst;
 pub mod limits;
 pub mod node;
+pub mod returns;
 mod stateless;

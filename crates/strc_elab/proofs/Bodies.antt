@@ -9,7 +9,7 @@ use Rattle.strc_syntax.specs.declared.tree.Expr.{Expr}
 use Rattle.strc_syntax.specs.declared.tree.Stmt.{Stmt, Block}
 use Rattle.strc_semantics.specs.Arithmetic.{is_true}
 use Rattle.strc_semantics.specs.Firing.{Variables, block_left, turn_limit}
-use Rattle.strc_check.specs.Typing.{TypedNames, names_after}
+use Rattle.strc_semantics.specs.Typing.{TypedNames, names_after}
 use Rattle.strc_syntax.proofs.Blocks.{stmt_view-Block, block_view-drop}
 use Rattle.strc_check.proofs.TypedGrowth.{StandsOn, stands_on_itself, stands_on_after, drop_inner}
 use Rattle.strc_check.proofs.TypedGrowth.{drop_own}

@@ -16,7 +16,7 @@ use Rattle.strc_semantics.specs.Filters.{filter_parts}
 use Rattle.strc_elab.specs.Elaboration.{Setting, Progress, Elaborated, Found, child_run, found_run}
 use Rattle.strc_elab.specs.Elaboration.{unnamed_found, named_found, child_added, arguments_given}
 use Rattle.strc_elab.specs.Elaboration.{where_kept}
-use Rattle.strc_check.specs.Typing.{TypedNames}
+use Rattle.strc_semantics.specs.Typing.{TypedNames}
 use Rattle.strc_statements.specs.Texts.{Constants, FilterText, CompositeText, listed, parameters_of}
 use Rattle.strc_statements.specs.Texts.{is_doubled, text_of}
 use Rattle.strc_statements.specs.declared.error.ElabError.{ElabError}

@@ -7,7 +7,7 @@ use Rattle.strc_syntax.specs.Tree as tree
 use Rattle.strc_syntax.specs.declared.tree.ItemType.TheVariants.{Void}
 use Rattle.strc_syntax.specs.declared.tree.CompositeKind.TheVariants.{Pipeline}
 use Rattle.strc_semantics.specs.Firing.{turn_limit}
-use Rattle.strc_check.specs.Typing.{TypedNames}
+use Rattle.strc_semantics.specs.Typing.{TypedNames}
 use Rattle.strc_semantics.specs.declared.fault.Cause.TheVariants.{Turns}
 use Rattle.strc_statements.specs.Statements.{computed}
 use Rattle.strc_elab.specs.Elaboration.{Setting, Progress, condition_evaluated, inside, looped}

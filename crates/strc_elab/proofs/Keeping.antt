@@ -6,8 +6,8 @@ use Rattle.strc_syntax.specs.Tree as tree
 use Rattle.strc_semantics.specs.Firing.{Store, turn_limit, block_left}
 use Rattle.strc_semantics.specs.Firing as firing
 use Rattle.strc_semantics.specs.Arithmetic.{is_true}
-use Rattle.strc_check.specs.Typing.{TypedNames, names_after}
-use Rattle.strc_check.specs.declared.types.ValueType.TheVariants as kind
+use Rattle.strc_semantics.specs.Typing.{TypedNames, names_after}
+use Rattle.strc_semantics.specs.declared.types.ValueType.TheVariants as kind
 use Rattle.strc_statements.specs.declared.error.ElabError.{ElabError}
 use Rattle.strc_statements.specs.Statements.{computed, eval_checked, simple_done, declaration_done}
 use Rattle.strc_elab.specs.Elaboration.{Setting, Progress, on_store, condition_evaluated, inside}

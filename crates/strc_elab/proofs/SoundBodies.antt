@@ -9,8 +9,8 @@ use Rattle.strc_syntax.specs.declared.tree.CompositeKind.{CompositeKind}
 use Rattle.strc_syntax.specs.declared.tree.Role.{Role}
 use Rattle.strc_syntax.specs.declared.tree.Role.TheVariants as role
 use Rattle.strc_semantics.specs.Firing.{Store}
-use Rattle.strc_check.specs.Typing.{TypedNames}
-use Rattle.strc_check.specs.declared.types.ValueType.TheVariants as value
+use Rattle.strc_semantics.specs.Typing.{TypedNames}
+use Rattle.strc_semantics.specs.declared.types.ValueType.TheVariants as value
 use Rattle.strc_stream.specs.Instances.{Stream}
 use Rattle.strc_stream.specs.Types.{is_int}
 use Rattle.strc_statements.specs.declared.error.ElabErrorKind.TheVariants as refused

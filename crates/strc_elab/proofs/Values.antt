@@ -7,8 +7,8 @@ use Rattle.strc_base.specs.Results.{result_and_then}
 use Rattle.strc_syntax.specs.View.{expr_view}
 use Rattle.strc_syntax.specs.declared.tree.Expr.{Expr}
 use Rattle.strc_semantics.specs.Firing.{Store}
-use Rattle.strc_check.specs.Typing.{TypedNames}
-use Rattle.strc_check.specs.declared.types.ValueType.TheVariants as kind
+use Rattle.strc_semantics.specs.Typing.{TypedNames}
+use Rattle.strc_semantics.specs.declared.types.ValueType.TheVariants as kind
 use Rattle.strc_statements.specs.Statements.{eval_checked}
 use Rattle.strc_statements.specs.Texts.{Constants}
 use Rattle.strc_statements.specs.declared.error.ElabError.{ElabError}

@@ -2,7 +2,7 @@
 use Rattle.std.specs.Prelude.{ℕ, Option, Some, Result, length}
 use Rattle.strc_base.specs.Results.{result_and_then}
 use Rattle.strc_syntax.specs.Tree as tree
-use Rattle.strc_check.specs.Typing.{TypedNames, names_after}
+use Rattle.strc_semantics.specs.Typing.{TypedNames, names_after}
 use Rattle.strc_elab.specs.Elaboration.{Setting, Progress, condition_evaluated, inside, looped}
 use Rattle.strc_elab.specs.Elaboration.{stmt_run}
 use Rattle.strc_statements.specs.declared.error.ElabError.{ElabError}

@@ -13,7 +13,7 @@ use crate::body::Body;
 use crate::progress::Progress;
 use crate::task::{Elaborated, Task};
 use strc_check::site::{Mismatch, Part};
-use strc_check::types::ValueType;
+use strc_semantics::types::ValueType;
 use strc_statements::error::ElabError;
 use strc_statements::store::Store;
 use strc_statements::weights::Split;

@@ -17,7 +17,7 @@ use crate::level::elaborate_text;
 use crate::task::{Elaborated, Task, Totals};
 use indexmap::IndexMap;
 use std::alloc::Global;
-use strc_check::constants::Constants;
+use strc_semantics::constants::Constants;
 use strc_statements::error::ElabError;
 use strc_statements::index::index_of;
 use strc_statements::main_stream::main_of;

@@ -3,7 +3,7 @@
 use indexmap::IndexMap;
 use std::alloc::Global;
 use strc_base::name::{Name, StringLiteral};
-use strc_check::constants::Constants;
+use strc_semantics::constants::Constants;
 use strc_stream::stream::Stream;
 use strc_syntax::tree::{CompositeKind, Decl, ItemType, Member, Stmt, StreamType};
 

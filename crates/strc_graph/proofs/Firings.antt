@@ -19,6 +19,7 @@ use Rattle.strc_semantics.specs.declared.word.Word.{Word}
 use Rattle.strc_semantics.specs.Filters.{Filter, body_block, body_rates, push_rate, pop_rate}
 use Rattle.strc_semantics.specs.Filters.{item_count, window_size}
 use Rattle.strc_semantics.specs.Firing.{Port, Fired, fired, stmts_done, port_at_rates, store_at}
+use Rattle.strc_semantics.specs.Firing.{setting_at}
 use Rattle.strc_semantics.specs.Firing.{block_left, field_values}
 use Rattle.strc_graph.specs.Graphs as graphs
 use Rattle.strc_graph.specs.Graphs.{NodeCode, Duplicate, Roundrobin}
@@ -155,7 +156,8 @@ port_within rates items count enough =
 -- a firing of a body at this port
 abbrev fired_at : Filter → Body → (fields : List ℤ) → Port → Result Fired Cause
 fired_at filter body fields port =
-    result_and_then (stmts_done port (body_block body filter.members) (store_at filter fields))
+    result_and_then (stmts_done (setting_at filter.members port) (body_block body filter.members)
+    (store_at filter fields))
     (λ store.
     let left = block_left (store_at filter fields) store in
     Ok (record {

@@ -1,6 +1,7 @@
 -- A firing of a filter prints only where its text does, and one of a node only where the node can
 -- write words.
-use Rattle.std.proofs.Common.{◌≡◌, refl, subst, ◌∙◌, ℕ, zero, suc, ◌+◌, ℤ, Bool, true, false, ◌||◌}
+use Rattle.std.proofs.Common.{◌≡◌, refl, subst, ◌∙◌, ℕ, zero, suc, ◌+◌, ℤ, pos, Bool, true, false}
+use Rattle.std.proofs.Common.{◌||◌}
 use Rattle.std.proofs.Common.{List, [], ◌∷◌, ◌++◌, length, Option, Some, None, Result, Ok, Err}
 use Rattle.std.specs.Prelude.{nat_lt, slice_get, if◌then◌else◌}
 use Rattle.std.specs.Result.{IfOk}
@@ -25,7 +26,10 @@ use Rattle.strc_semantics.specs.Firing.{pushed_to, joined, value_of, assigned_va
 use Rattle.strc_semantics.specs.Firing.{cell_in, cell_set, declared_in, element_joined, element_set}
 use Rattle.strc_semantics.specs.Firing.{initial_cells, variables_declared, condition_value, turned}
 use Rattle.strc_semantics.specs.Firing.{turn_limit, looped, inside, stmt_done, stmts_done, store_at}
-use Rattle.strc_semantics.specs.Firing.{port_of, Fired, fired}
+use Rattle.strc_semantics.specs.Firing.{setting_of, Fired, fired, Setting, arguments_given}
+use Rattle.strc_semantics.specs.Firing.{values_of, fields_in, after_call, has_returned, returned}
+use Rattle.strc_semantics.specs.Firing.{unless_returned, test_unless_returned}
+use Rattle.strc_semantics.specs.Returns.{stmt_returns}
 use Rattle.strc_dataflow.specs.Node.{ByPort, Fired.Fires, Fired.Faults}
 use Rattle.strc_dataflow.specs.Node as generic
 use Rattle.strc_graph.specs.Graphs as graphs
@@ -127,88 +131,110 @@ joined_quiet binary.Remainder words first right h k =
     strict_quiet binary.Remainder words first (right first.1) k
 
 -- an expression prints nothing
-value_quiet : (port : Port) (e : tree.Expr) (store : Store) (words : List Word)
-    → store.traffic.words ≡ words → GivesQuietly words (value_of port e store)
-value_quiet port (tree.Number value) store words h = h
-value_quiet port (tree.Truth value) store words h = h
-value_quiet port (tree.Read name) store words h = h
-value_quiet port (tree.Element name index) store words h =
-    then_ok (value_of port index store) _ (λ given. given.1.traffic.words ≡ words)
-    (λ given. given.1.traffic.words ≡ words)
-    (value_quiet port index store words h)
-    (λ at k. any_given (place_of at.1 name at.0) (λ place. (cell_in at.1 name place, at.1)) words
-    (λ place. k))
-value_quiet port tree.Pop store words h =
-    then_ok (item_popped (slice_get port.front store.traffic.popped) store.traffic) _
-    (λ taken. taken.1.words ≡ store.traffic.words) (λ given. given.1.traffic.words ≡ words)
-    (pop_quiet store.traffic (slice_get port.front store.traffic.popped)) (λ taken k. k ∙ h)
-value_quiet port (tree.Peek index) store words h =
-    then_ok (value_of port index store) _ (λ given. given.1.traffic.words ≡ words)
-    (λ given. given.1.traffic.words ≡ words)
-    (value_quiet port index store words h)
-    (λ place k. any_given (looked_at (item_ahead port place.1.traffic.popped place.0))
-    (λ item. (item, place.1)) words (λ item. k))
-value_quiet port (tree.Call name arguments) store words h = tt
-value_quiet port (tree.Group inner) store words h = value_quiet port inner store words h
-value_quiet port (tree.Unary operator operand) store words h =
-    then_ok (value_of port operand store) _ (λ given. given.1.traffic.words ≡ words)
-    (λ given. given.1.traffic.words ≡ words)
-    (value_quiet port operand store words h) (λ given k. k)
-value_quiet port (tree.Step operator name) store words h = h
-value_quiet port (tree.StepElement operator name index) store words h =
-    then_ok (value_of port index store) _ (λ given. given.1.traffic.words ≡ words)
-    (λ given. given.1.traffic.words ≡ words)
-    (value_quiet port index store words h)
-    (λ at k. any_given (place_of at.1 name at.0) _ words (λ place. k))
-value_quiet port (tree.Binary operator left right) store words h =
-    then_ok (value_of port left store) _ (λ given. given.1.traffic.words ≡ words)
-    (λ given. given.1.traffic.words ≡ words)
-    (value_quiet port left store words h)
-    (λ first k. joined_quiet operator words first (value_of port right) k
-    (value_quiet port right first.1 words k))
-value_quiet port (tree.Conditional condition chosen other) store words h =
-    then_ok (value_of port condition store) _ (λ given. given.1.traffic.words ≡ words)
-    (λ given. given.1.traffic.words ≡ words)
-    (value_quiet port condition store words h)
-    (λ test k. side_quiet (is_true test.0) words (value_of port chosen test.1)
-    (value_of port other test.1)
-    (value_quiet port chosen test.1 words k) (value_quiet port other test.1 words k))
+mutual
+  value_quiet : (setting : Setting) (e : tree.Expr) (store : Store) (words : List Word)
+      → store.traffic.words ≡ words → GivesQuietly words (value_of setting e store)
+  value_quiet setting (tree.Number value) store words h = h
+  value_quiet setting (tree.Truth value) store words h = h
+  value_quiet setting (tree.Read name) store words h = h
+  value_quiet setting (tree.Element name index) store words h =
+      then_ok (value_of setting index store) _ (λ given. given.1.traffic.words ≡ words)
+      (λ given. given.1.traffic.words ≡ words)
+      (value_quiet setting index store words h)
+      (λ at k. any_given (place_of at.1 name at.0) (λ place. (cell_in at.1 name place, at.1)) words
+      (λ place. k))
+  value_quiet setting tree.Pop store words h =
+      then_ok (item_popped (slice_get setting.port.front store.traffic.popped) store.traffic) _
+      (λ taken. taken.1.words ≡ store.traffic.words) (λ given. given.1.traffic.words ≡ words)
+      (pop_quiet store.traffic (slice_get setting.port.front store.traffic.popped))
+      (λ taken k. k ∙ h)
+  value_quiet setting (tree.Peek index) store words h =
+      then_ok (value_of setting index store) _ (λ given. given.1.traffic.words ≡ words)
+      (λ given. given.1.traffic.words ≡ words)
+      (value_quiet setting index store words h)
+      (λ place k. any_given (looked_at (item_ahead setting.port place.1.traffic.popped place.0))
+      (λ item. (item, place.1)) words (λ item. k))
+  value_quiet setting (tree.Call name arguments) store words h =
+      then_ok (arguments_given setting arguments store) _ (λ given. given.1.traffic.words ≡ words)
+      (λ given. given.1.traffic.words ≡ words)
+      (arguments_quiet setting arguments store words h)
+      (λ given k. any_given (setting.call name given.0
+      (values_of (fields_in setting given.1.variables)) given.1.traffic.turns)
+      (λ called. (called.value, after_call setting given.1 called)) words (λ called. k))
+  value_quiet setting (tree.Group inner) store words h = value_quiet setting inner store words h
+  value_quiet setting (tree.Unary operator operand) store words h =
+      then_ok (value_of setting operand store) _ (λ given. given.1.traffic.words ≡ words)
+      (λ given. given.1.traffic.words ≡ words)
+      (value_quiet setting operand store words h) (λ given k. k)
+  value_quiet setting (tree.Step operator name) store words h = h
+  value_quiet setting (tree.StepElement operator name index) store words h =
+      then_ok (value_of setting index store) _ (λ given. given.1.traffic.words ≡ words)
+      (λ given. given.1.traffic.words ≡ words)
+      (value_quiet setting index store words h)
+      (λ at k. any_given (place_of at.1 name at.0) _ words (λ place. k))
+  value_quiet setting (tree.Binary operator left right) store words h =
+      then_ok (value_of setting left store) _ (λ given. given.1.traffic.words ≡ words)
+      (λ given. given.1.traffic.words ≡ words)
+      (value_quiet setting left store words h)
+      (λ first k. joined_quiet operator words first (value_of setting right) k
+      (value_quiet setting right first.1 words k))
+  value_quiet setting (tree.Conditional condition chosen other) store words h =
+      then_ok (value_of setting condition store) _ (λ given. given.1.traffic.words ≡ words)
+      (λ given. given.1.traffic.words ≡ words)
+      (value_quiet setting condition store words h)
+      (λ test k. side_quiet (is_true test.0) words (value_of setting chosen test.1)
+      (value_of setting other test.1)
+      (value_quiet setting chosen test.1 words k) (value_quiet setting other test.1 words k))
 
-condition_quiet : (port : Port) (condition : Option tree.Expr) (store : Store) (words : List Word)
-    → store.traffic.words ≡ words → GivesQuietly words (condition_value port condition store)
-condition_quiet port None store words h = h
-condition_quiet port (Some condition) store words h = value_quiet port condition store words h
+  -- and so do arguments
+  arguments_quiet : (setting : Setting) (e : tree.Arguments) (store : Store) (words : List Word)
+      → store.traffic.words ≡ words
+      → IfOk (arguments_given setting e store) (λ given. given.1.traffic.words ≡ words)
+  arguments_quiet setting tree.NoArgument store words h = h
+  arguments_quiet setting (tree.Argument first rest) store words h =
+      then_ok (value_of setting first store) _ (λ given. given.1.traffic.words ≡ words)
+      (λ given. given.1.traffic.words ≡ words)
+      (value_quiet setting first store words h)
+      (λ given k. then_ok (arguments_given setting rest given.1) _
+      (λ others. others.1.traffic.words ≡ words) (λ others. others.1.traffic.words ≡ words)
+      (arguments_quiet setting rest given.1 words k) (λ others l. l))
+
+condition_quiet : (setting : Setting) (condition : Option tree.Expr) (store : Store)
+    (words : List Word) → store.traffic.words ≡ words → GivesQuietly words
+    (condition_value setting condition store)
+condition_quiet setting None store words h = h
+condition_quiet setting (Some condition) store words h = value_quiet setting condition store words h
 
 -- ---- statements
 
 -- a value, and then something that prints nothing
-then_quiet : (port : Port) (e : tree.Expr) (store : Store) (go : ℤ × Store → Store)
+then_quiet : (setting : Setting) (e : tree.Expr) (store : Store) (go : ℤ × Store → Store)
     (words : List Word) → store.traffic.words ≡ words
     → ((given : ℤ × Store) → (go given).traffic.words ≡ given.1.traffic.words)
-    → IsQuiet words (result_and_then (value_of port e store) (λ given. Ok (go given)))
-then_quiet port e store go words h still =
-    then_ok (value_of port e store) _ (λ given. given.1.traffic.words ≡ words)
+    → IsQuiet words (result_and_then (value_of setting e store) (λ given. Ok (go given)))
+then_quiet setting e store go words h still =
+    then_ok (value_of setting e store) _ (λ given. given.1.traffic.words ≡ words)
     (λ after. after.traffic.words ≡ words)
-    (value_quiet port e store words h) (λ given k. still given ∙ k)
+    (value_quiet setting e store words h) (λ given k. still given ∙ k)
 
-initial_quiet : (port : Port) (cells : ℕ) (initial : Option tree.Expr) (store : Store)
+initial_quiet : (setting : Setting) (cells : ℕ) (initial : Option tree.Expr) (store : Store)
     (words : List Word) → store.traffic.words ≡ words
-    → IfOk (initial_cells port cells initial store) (λ given. given.1.traffic.words ≡ words)
-initial_quiet port cells None store words h = h
-initial_quiet port cells (Some initial) store words h =
-    then_ok (value_of port initial store) _ (λ given. given.1.traffic.words ≡ words)
+    → IfOk (initial_cells setting cells initial store) (λ given. given.1.traffic.words ≡ words)
+initial_quiet setting cells None store words h = h
+initial_quiet setting cells (Some initial) store words h =
+    then_ok (value_of setting initial store) _ (λ given. given.1.traffic.words ≡ words)
     (λ given. given.1.traffic.words ≡ words)
-    (value_quiet port initial store words h) (λ given k. k)
+    (value_quiet setting initial store words h) (λ given k. k)
 
-variables_quiet : (port : Port) (cells : ℕ) (variables : List tree.Variable) (store : Store)
+variables_quiet : (setting : Setting) (cells : ℕ) (variables : List tree.Variable) (store : Store)
     (words : List Word) → store.traffic.words ≡ words
-    → IsQuiet words (variables_declared port cells variables store)
-variables_quiet port cells [] store words h = h
-variables_quiet port cells (first ∷ rest) store words h =
-    then_ok (initial_cells port cells first.initial store) _
+    → IsQuiet words (variables_declared setting cells variables store)
+variables_quiet setting cells [] store words h = h
+variables_quiet setting cells (first ∷ rest) store words h =
+    then_ok (initial_cells setting cells first.initial store) _
     (λ given. given.1.traffic.words ≡ words) (λ after. after.traffic.words ≡ words)
-    (initial_quiet port cells first.initial store words h)
-    (λ given k. variables_quiet port cells rest (declared_in given.1 first.name given.0) words k)
+    (initial_quiet setting cells first.initial store words h)
+    (λ given k. variables_quiet setting cells rest (declared_in given.1 first.name given.0) words k)
 
 push_quiet : (port : Port) (item : ℤ) (traffic : Traffic)
     → IfOk (pushed_to port item traffic) (λ after. after.words ≡ traffic.words)
@@ -230,6 +256,27 @@ branch_quiet : (test : Bool) (words : List Word) (one other : Result Store Cause
     → IsQuiet words one → IsQuiet words other → IsQuiet words (if test then one else other)
 branch_quiet true words one other h k = h
 branch_quiet false words one other h k = k
+
+-- what comes after a part in which a `return` may stand
+unless_quiet : (returns : Bool) (does : Store → Result Store Cause) (store : Store)
+    (words : List Word) → store.traffic.words ≡ words → IsQuiet words (does store)
+    → IsQuiet words (unless_returned returns does store)
+unless_quiet false does store words h k = k
+unless_quiet true does store words h k =
+    branch_quiet (has_returned store) words (Ok store) (does store) h k
+
+test_quiet : (returns : Bool) (test : Store → Result (ℤ × Store) Cause) (store : Store)
+    (words : List Word) → store.traffic.words ≡ words → GivesQuietly words (test store)
+    → GivesQuietly words (test_unless_returned returns test store)
+test_quiet false test store words h k = k
+test_quiet true test store words h k =
+    side_quiet (has_returned store) words (Ok (pos 0, store)) (test store) h k
+
+return_quiet : (setting : Setting) (value : Option tree.Expr) (store : Store) (words : List Word)
+    → store.traffic.words ≡ words → IsQuiet words (returned setting value store)
+return_quiet setting None store words h = h
+return_quiet setting (Some value) store words h =
+    then_quiet setting value store _ words h (λ given. refl)
 
 turned_quiet : (store : Store) → IsQuiet store.traffic.words (turned store)
 turned_quiet store = by_test (nat_lt store.traffic.turns turn_limit)
@@ -260,131 +307,144 @@ loop_quiet (suc fuel) test does words tests moves store h =
     (λ done m. loop_quiet fuel test does words tests moves done m))) k)
 
 -- an assignment to an element, after its index
-joined_element_quiet : (port : Port) (name : List ℕ) (operator : BinaryOperator) (value : tree.Expr)
-    (at : ℤ × Store) (words : List Word) → at.1.traffic.words ≡ words
-    → IsQuiet words (element_joined port name operator value at)
-joined_element_quiet port name operator value at words h = by_place (place_of at.1 name at.0)
+joined_element_quiet : (setting : Setting) (name : List ℕ) (operator : BinaryOperator)
+    (value : tree.Expr) (at : ℤ × Store) (words : List Word) → at.1.traffic.words ≡ words
+    → IsQuiet words (element_joined setting name operator value at)
+joined_element_quiet setting name operator value at words h = by_place (place_of at.1 name at.0)
   where
     by_place : (found : Result ℕ Cause) → IsQuiet words
-        (result_and_then found (λ place. result_and_then (value_of port value at.1)
+        (result_and_then found (λ place. result_and_then (value_of setting value at.1)
         (λ given. result_and_then (binary_value operator (cell_in at.1 name place) given.0)
         (λ new. Ok (cell_set given.1 name place new)))))
     by_place (Ok place) =
-        then_ok (value_of port value at.1) _ (λ given. given.1.traffic.words ≡ words)
+        then_ok (value_of setting value at.1) _ (λ given. given.1.traffic.words ≡ words)
         (λ after. after.traffic.words ≡ words)
-        (value_quiet port value at.1 words h)
+        (value_quiet setting value at.1 words h)
         (λ given k. any_quiet (binary_value operator (cell_in at.1 name place) given.0)
         (λ new. cell_set given.1 name place new) words (λ new. k))
     by_place (Err cause) = tt
 
-element_quiet : (port : Port) (name : List ℕ) (operator : AssignOperator) (value : tree.Expr)
+element_quiet : (setting : Setting) (name : List ℕ) (operator : AssignOperator) (value : tree.Expr)
     (at : ℤ × Store) (words : List Word) → at.1.traffic.words ≡ words
-    → IsQuiet words (element_set port name operator value at)
-element_quiet port name assign.Set value at words h =
-    then_ok (value_of port value at.1) _ (λ given. given.1.traffic.words ≡ words)
+    → IsQuiet words (element_set setting name operator value at)
+element_quiet setting name assign.Set value at words h =
+    then_ok (value_of setting value at.1) _ (λ given. given.1.traffic.words ≡ words)
     (λ after. after.traffic.words ≡ words)
-    (value_quiet port value at.1 words h)
+    (value_quiet setting value at.1 words h)
     (λ given k. any_quiet (place_of given.1 name at.0)
     (λ place. cell_set given.1 name place given.0) words (λ place. k))
-element_quiet port name assign.Add value at words h =
-    joined_element_quiet port name binary.Add value at words h
-element_quiet port name assign.Subtract value at words h =
-    joined_element_quiet port name binary.Subtract value at words h
-element_quiet port name assign.Multiply value at words h =
-    joined_element_quiet port name binary.Multiply value at words h
-element_quiet port name assign.Divide value at words h =
-    joined_element_quiet port name binary.Divide value at words h
-element_quiet port name assign.Remainder value at words h =
-    joined_element_quiet port name binary.Remainder value at words h
+element_quiet setting name assign.Add value at words h =
+    joined_element_quiet setting name binary.Add value at words h
+element_quiet setting name assign.Subtract value at words h =
+    joined_element_quiet setting name binary.Subtract value at words h
+element_quiet setting name assign.Multiply value at words h =
+    joined_element_quiet setting name binary.Multiply value at words h
+element_quiet setting name assign.Divide value at words h =
+    joined_element_quiet setting name binary.Divide value at words h
+element_quiet setting name assign.Remainder value at words h =
+    joined_element_quiet setting name binary.Remainder value at words h
 
 mutual
-  stmt_quiet : (port : Port) (s : tree.Stmt) (store : Store) (words : List Word)
-      → stmt_prints s ≡ false → store.traffic.words ≡ words → IsQuiet words (stmt_done port s store)
-  stmt_quiet port tree.Empty store words none h = h
-  stmt_quiet port (tree.Return value) store words none h = h
-  stmt_quiet port (tree.Block body) store words none h =
-      inside_quiet (stmts_done port body) store words (stmts_quiet port body store words none h)
-  stmt_quiet port (tree.Declare kind variables) store words none h =
-      variables_quiet port (cells_of kind) variables store words h
-  stmt_quiet port (tree.Evaluate value) store words none h =
-      then_quiet port value store _ words h (λ given. refl)
-  stmt_quiet port (tree.Assign name operator value) store words none h =
-      then_quiet port (assigned_value name operator value) store _ words h (λ given. refl)
-  stmt_quiet port (tree.AssignElement name index operator value) store words none h =
-      then_ok (value_of port index store) _ (λ given. given.1.traffic.words ≡ words)
+  stmt_quiet : (setting : Setting) (s : tree.Stmt) (store : Store) (words : List Word)
+      → stmt_prints s ≡ false → store.traffic.words ≡ words
+      → IsQuiet words (stmt_done setting s store)
+  stmt_quiet setting tree.Empty store words none h = h
+  stmt_quiet setting (tree.Return value) store words none h =
+      return_quiet setting value store words h
+  stmt_quiet setting (tree.Block body) store words none h =
+      inside_quiet (stmts_done setting body) store words
+      (stmts_quiet setting body store words none h)
+  stmt_quiet setting (tree.Declare kind variables) store words none h =
+      variables_quiet setting (cells_of kind) variables store words h
+  stmt_quiet setting (tree.Evaluate value) store words none h =
+      then_quiet setting value store _ words h (λ given. refl)
+  stmt_quiet setting (tree.Assign name operator value) store words none h =
+      then_quiet setting (assigned_value name operator value) store _ words h (λ given. refl)
+  stmt_quiet setting (tree.AssignElement name index operator value) store words none h =
+      then_ok (value_of setting index store) _ (λ given. given.1.traffic.words ≡ words)
       (λ after. after.traffic.words ≡ words)
-      (value_quiet port index store words h)
-      (λ at k. element_quiet port name operator value at words k)
-  stmt_quiet port (tree.If condition chosen) store words none h =
-      then_ok (value_of port condition store) _ (λ given. given.1.traffic.words ≡ words)
+      (value_quiet setting index store words h)
+      (λ at k. element_quiet setting name operator value at words k)
+  stmt_quiet setting (tree.If condition chosen) store words none h =
+      then_ok (value_of setting condition store) _ (λ given. given.1.traffic.words ≡ words)
       (λ after. after.traffic.words ≡ words)
-      (value_quiet port condition store words h)
-      (λ test k. branch_quiet (is_true test.0) words (inside (stmt_done port chosen) test.1)
+      (value_quiet setting condition store words h)
+      (λ test k. branch_quiet (is_true test.0) words (inside (stmt_done setting chosen) test.1)
       (Ok test.1)
-      (inside_quiet (stmt_done port chosen) test.1 words
-      (stmt_quiet port chosen test.1 words none k)) k)
-  stmt_quiet port (tree.IfElse condition chosen other) store words none h =
-      then_ok (value_of port condition store) _ (λ given. given.1.traffic.words ≡ words)
+      (inside_quiet (stmt_done setting chosen) test.1 words
+      (stmt_quiet setting chosen test.1 words none k)) k)
+  stmt_quiet setting (tree.IfElse condition chosen other) store words none h =
+      then_ok (value_of setting condition store) _ (λ given. given.1.traffic.words ≡ words)
       (λ after. after.traffic.words ≡ words)
-      (value_quiet port condition store words h)
-      (λ test k. branch_quiet (is_true test.0) words (inside (stmt_done port chosen) test.1)
-      (inside (stmt_done port other) test.1)
-      (inside_quiet (stmt_done port chosen) test.1 words
-      (stmt_quiet port chosen test.1 words
+      (value_quiet setting condition store words h)
+      (λ test k. branch_quiet (is_true test.0) words (inside (stmt_done setting chosen) test.1)
+      (inside (stmt_done setting other) test.1)
+      (inside_quiet (stmt_done setting chosen) test.1 words
+      (stmt_quiet setting chosen test.1 words
       (or_first (stmt_prints chosen) (stmt_prints other) none) k))
-      (inside_quiet (stmt_done port other) test.1 words
-      (stmt_quiet port other test.1 words
+      (inside_quiet (stmt_done setting other) test.1 words
+      (stmt_quiet setting other test.1 words
       (or_second (stmt_prints chosen) (stmt_prints other) none) k)))
-  stmt_quiet port (tree.While condition body) store words none h =
-      loop_quiet (suc turn_limit) (value_of port condition) (inside (stmt_done port body)) words
-      (λ s k. value_quiet port condition s words k)
-      (λ s k. inside_quiet (stmt_done port body) s words (stmt_quiet port body s words none k))
-      store h
-  stmt_quiet port (tree.For first condition step body) store words none h =
+  stmt_quiet setting (tree.While condition body) store words none h =
+      loop_quiet (suc turn_limit)
+      (test_unless_returned (stmt_returns body) (value_of setting condition))
+      (inside (stmt_done setting body)) words
+      (λ s k. test_quiet (stmt_returns body) (value_of setting condition) s words k
+      (value_quiet setting condition s words k))
+      (λ s k. inside_quiet (stmt_done setting body) s words
+      (stmt_quiet setting body s words none k)) store h
+  stmt_quiet setting (tree.For first condition step body) store words none h =
       let rest = or_second (stmt_prints first) (stmt_prints step || stmt_prints body) none in
-      inside_quiet (λ outer. result_and_then (stmt_done port first outer)
-      (λ begun. looped (suc turn_limit) (condition_value port condition)
-      (λ turn. result_and_then (inside (stmt_done port body) turn)
-      (inside (stmt_done port step))) begun)) store words
-      (then_ok (stmt_done port first store) _ (λ after. after.traffic.words ≡ words)
+      inside_quiet (λ outer. result_and_then (stmt_done setting first outer)
+      (λ begun. looped (suc turn_limit)
+      (test_unless_returned (stmt_returns body) (condition_value setting condition))
+      (λ turn. result_and_then (inside (stmt_done setting body) turn)
+      (unless_returned (stmt_returns body) (inside (stmt_done setting step)))) begun)) store words
+      (then_ok (stmt_done setting first store) _ (λ after. after.traffic.words ≡ words)
       (λ after. after.traffic.words ≡ words)
-      (stmt_quiet port first store words (or_first (stmt_prints first)
+      (stmt_quiet setting first store words (or_first (stmt_prints first)
       (stmt_prints step || stmt_prints body) none) h)
       (λ begun k.
-      loop_quiet (suc turn_limit) (condition_value port condition)
-      (λ turn. result_and_then (inside (stmt_done port body) turn)
-      (inside (stmt_done port step))) words
-      (λ s l. condition_quiet port condition s words l)
+      loop_quiet (suc turn_limit)
+      (test_unless_returned (stmt_returns body) (condition_value setting condition))
+      (λ turn. result_and_then (inside (stmt_done setting body) turn)
+      (unless_returned (stmt_returns body) (inside (stmt_done setting step)))) words
+      (λ s l. test_quiet (stmt_returns body) (condition_value setting condition) s words l
+      (condition_quiet setting condition s words l))
       (λ s l.
-      then_ok (inside (stmt_done port body) s) _ (λ after. after.traffic.words ≡ words)
+      then_ok (inside (stmt_done setting body) s) _ (λ after. after.traffic.words ≡ words)
       (λ after. after.traffic.words ≡ words)
-      (inside_quiet (stmt_done port body) s words
-      (stmt_quiet port body s words (or_second (stmt_prints step) (stmt_prints body) rest) l))
-      (λ done m. inside_quiet (stmt_done port step) done words
-      (stmt_quiet port step done words (or_first (stmt_prints step) (stmt_prints body) rest) m)))
+      (inside_quiet (stmt_done setting body) s words
+      (stmt_quiet setting body s words (or_second (stmt_prints step) (stmt_prints body) rest) l))
+      (λ done m. unless_quiet (stmt_returns body) (inside (stmt_done setting step)) done words m
+      (inside_quiet (stmt_done setting step) done words (stmt_quiet setting step done words
+      (or_first (stmt_prints step) (stmt_prints body) rest) m))))
       begun k))
-  stmt_quiet port (tree.Push value) store words none h =
-      then_ok (value_of port value store) _ (λ given. given.1.traffic.words ≡ words)
+  stmt_quiet setting (tree.Push value) store words none h =
+      then_ok (value_of setting value store) _ (λ given. given.1.traffic.words ≡ words)
       (λ after. after.traffic.words ≡ words)
-      (value_quiet port value store words h)
+      (value_quiet setting value store words h)
       (λ given k.
-      then_ok (pushed_to port given.0 given.1.traffic) _
+      then_ok (pushed_to setting.port given.0 given.1.traffic) _
       (λ traffic. traffic.words ≡ given.1.traffic.words) (λ after. after.traffic.words ≡ words)
-      (push_quiet port given.0 given.1.traffic) (λ traffic l. l ∙ k))
-  stmt_quiet port (tree.Print value) store words none h = absurd (cc)
-  stmt_quiet port (tree.Println value) store words none h = absurd (cc)
-  stmt_quiet port (tree.Compose statement) store words none h = h
+      (push_quiet setting.port given.0 given.1.traffic) (λ traffic l. l ∙ k))
+  stmt_quiet setting (tree.Print value) store words none h = absurd (cc)
+  stmt_quiet setting (tree.Println value) store words none h = absurd (cc)
+  stmt_quiet setting (tree.Compose statement) store words none h = h
 
-  stmts_quiet : (port : Port) (s : tree.Stmts) (store : Store) (words : List Word)
+  stmts_quiet : (setting : Setting) (s : tree.Stmts) (store : Store) (words : List Word)
       → stmts_print s ≡ false → store.traffic.words ≡ words
-      → IsQuiet words (stmts_done port s store)
-  stmts_quiet port tree.Done store words none h = h
-  stmts_quiet port (tree.Then first rest) store words none h =
-      then_ok (stmt_done port first store) (stmts_done port rest)
+      → IsQuiet words (stmts_done setting s store)
+  stmts_quiet setting tree.Done store words none h = h
+  stmts_quiet setting (tree.Then first rest) store words none h =
+      then_ok (stmt_done setting first store)
+      (unless_returned (stmt_returns first) (stmts_done setting rest))
       (λ after. after.traffic.words ≡ words) (λ after. after.traffic.words ≡ words)
-      (stmt_quiet port first store words (or_first (stmt_prints first) (stmts_print rest) none) h)
-      (λ middle k. stmts_quiet port rest middle words
-      (or_second (stmt_prints first) (stmts_print rest) none) k)
+      (stmt_quiet setting first store words
+      (or_first (stmt_prints first) (stmts_print rest) none) h)
+      (λ middle k. unless_quiet (stmt_returns first) (stmts_done setting rest) middle words k
+      (stmts_quiet setting rest middle words
+      (or_second (stmt_prints first) (stmts_print rest) none) k))
 
 -- a body of a filter that doesn't print
 body_silent : (fires : Body) (filter : Filter) → filter_prints filter ≡ false
@@ -401,9 +461,9 @@ pub firing_quiet : (filter : Filter) (fires : Body) (fields window : List ℤ)
     → filter_prints filter ≡ false
     → IfOk (fired filter fires fields window) (λ done. done.words ≡ [])
 firing_quiet filter fires fields window silent =
-    then_ok (stmts_done (port_of filter fires window) (body_block fires filter.members)
+    then_ok (stmts_done (setting_of filter fires window) (body_block fires filter.members)
     (store_at filter fields)) _ (λ after. after.traffic.words ≡ []) (λ done. done.words ≡ [])
-    (stmts_quiet (port_of filter fires window) (body_block fires filter.members)
+    (stmts_quiet (setting_of filter fires window) (body_block fires filter.members)
     (store_at filter fields) [] (body_silent fires filter silent) refl)
     (λ store h. h)
 

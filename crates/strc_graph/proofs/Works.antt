@@ -8,6 +8,7 @@ use Rattle.strc_semantics.specs.declared.body.Body.TheVariants as body
 use Rattle.strc_semantics.specs.Filters.{Filter, work_block, work_rates, prework_block}
 use Rattle.strc_semantics.specs.Filters.{prework_rates, body_block, body_rates}
 use Rattle.strc_semantics.specs.Firing.{Fired, fired, stmts_done, port_at_rates, store_at}
+use Rattle.strc_semantics.specs.Firing.{setting_at}
 use Rattle.strc_semantics.specs.Firing.{block_left, field_values}
 use Rattle.strc_semantics.specs.declared.fault.Cause.{Cause}
 use Rattle.strc_graph.specs.Rates.{firing_rates, body_at}
@@ -51,7 +52,8 @@ rates_of_work filter none firing = work_rates_alone (body_at firing) filter.memb
 abbrev firing_of : Filter → List tree.Rate → tree.Stmts → (fields items : List ℤ)
     → Result Fired Cause
 firing_of filter rates block fields items =
-    result_and_then (stmts_done (port_at_rates rates items) block (store_at filter fields))
+    result_and_then (stmts_done (setting_at filter.members (port_at_rates rates items)) block
+    (store_at filter fields))
     (λ store.
     let left = block_left (store_at filter fields) store in
     Ok (record {

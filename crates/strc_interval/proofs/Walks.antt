@@ -1,6 +1,6 @@
 -- One walk over a text, beside the tables of the names, tells whether it writes one of the fields.
 use Rattle.std.proofs.Common.{◌≡◌, refl, sym, ◌∙◌, ap, ℕ, Bool, true, false, not, ◌&&◌, ◌||◌, List}
-use Rattle.std.proofs.Common.{[], ◌∷◌, ◌++◌, Option, Some, None}
+use Rattle.std.proofs.Common.{[], ◌∷◌, ◌++◌, Option, Some, None, cond}
 use Rattle.std.specs.Prelude.{bytes_eq}
 use Rattle.std.proofs.lemmas.Slice.Eq.{bytes_eq-Decides}
 use Rattle.strc_base.specs.Names.{has_name}
@@ -9,10 +9,11 @@ use Rattle.strc_semantics.specs.Filters.{field_names, declared_names}
 use Rattle.strc_interval.specs.Loops.{Locals, with_locals, locals_after, declares, shadows}
 use Rattle.strc_interval.specs.Loops.{expr_writes, exprs_write, option_writes, variables_write}
 use Rattle.strc_interval.specs.Loops.{stmt_writes, stmts_write}
-use Rattle.strc_interval.specs.Stateless.{write_one_of}
+use Rattle.strc_interval.specs.Stateless.{write_one_of, not_hidden}
 use Rattle.strc_interval.specs.Walk.{with_fields, is_field, expr_writes_field, exprs_write_field}
 use Rattle.strc_interval.specs.Walk.{option_writes_field, variables_write_field}
 use Rattle.strc_interval.specs.Walk.{stmt_writes_field, stmts_write_field}
+use Rattle.strc_interval.specs.Writers.{with_parameters}
 
 -- ---- truth values
 
@@ -281,50 +282,107 @@ some_one_of : (fields : List (List ℕ)) (block : tree.Stmts)
 some_one_of [] block = refl
 some_one_of (name ∷ rest) block = ap (λ t. stmts_write name block || t) (some_one_of rest block)
 
-one_of-append : (first second : List (List ℕ)) (block : tree.Stmts)
-    → write_one_of (first ++ second) block
-    ≡ (write_one_of first block || write_one_of second block)
-one_of-append [] second block = refl
-one_of-append (name ∷ rest) second block =
-    ap (λ t. stmts_write name block || t) (one_of-append rest second block)
-    ∙ joined (stmts_write name block) (write_one_of rest block) (write_one_of second block)
+some-append : (first second : List (List ℕ)) (locals : Locals) (test : List ℕ → Bool)
+    → some_field (first ++ second) locals test
+    ≡ (some_field first locals test || some_field second locals test)
+some-append [] second locals test = refl
+some-append (name ∷ rest) second locals test =
+    ap (λ t. (not (has_name locals name) && test name) || t) (some-append rest second locals test)
+    ∙ joined (not (has_name locals name) && test name) (some_field rest locals test)
+    (some_field second locals test)
   where
     joined : (a b c : Bool) → (a || (b || c)) ≡ ((a || b) || c)
     joined true b c = refl
     joined false b c = refl
 
-one_of_declared : (names : List (List ℕ)) (variables : List tree.Variable) (block : tree.Stmts)
-    → write_one_of (with_locals names variables) block
-    ≡ (write_one_of (declared_names variables) block || write_one_of names block)
-one_of_declared names [] block = refl
-one_of_declared names (first ∷ rest) block =
-    one_of_declared (first.name ∷ names) rest block
-    ∙ or_moved (write_one_of (declared_names rest) block) (stmts_write first.name block)
-    (write_one_of names block)
+some_added : (names : List (List ℕ)) (variables : List tree.Variable) (locals : Locals)
+    (test : List ℕ → Bool) → some_field (with_locals names variables) locals test
+    ≡ (some_field (declared_names variables) locals test || some_field names locals test)
+some_added names [] locals test = refl
+some_added names (first ∷ rest) locals test =
+    some_added (first.name ∷ names) rest locals test
+    ∙ or_moved (some_field (declared_names rest) locals test)
+    (not (has_name locals first.name) && test first.name) (some_field names locals test)
 
-one_of_fields : (names : List (List ℕ)) (members : List tree.Member) (block : tree.Stmts)
-    → write_one_of (with_fields names members) block
-    ≡ (write_one_of (field_names members) block || write_one_of names block)
-one_of_fields names [] block = refl
-one_of_fields names (tree.Fields kind variables ∷ rest) block =
-    one_of_fields (with_locals names variables) rest block
-    ∙ ap (λ t. write_one_of (field_names rest) block || t) (one_of_declared names variables block)
-    ∙ or_moved (write_one_of (field_names rest) block)
-    (write_one_of (declared_names variables) block) (write_one_of names block)
-    ∙ ap (λ t. t || write_one_of names block)
-    (sym (one_of-append (declared_names variables) (field_names rest) block))
-one_of_fields names (tree.Init body ∷ rest) block = one_of_fields names rest block
-one_of_fields names (tree.Prework rates body ∷ rest) block = one_of_fields names rest block
-one_of_fields names (tree.Work rates body ∷ rest) block = one_of_fields names rest block
-one_of_fields names (tree.Helper kind name parameters body ∷ rest) block =
-    one_of_fields names rest block
+some_of_fields : (names : List (List ℕ)) (members : List tree.Member) (locals : Locals)
+    (test : List ℕ → Bool) → some_field (with_fields names members) locals test
+    ≡ (some_field (field_names members) locals test || some_field names locals test)
+some_of_fields names [] locals test = refl
+some_of_fields names (tree.Fields kind variables ∷ rest) locals test =
+    some_of_fields (with_locals names variables) rest locals test
+    ∙ ap (λ t. some_field (field_names rest) locals test || t)
+    (some_added names variables locals test)
+    ∙ or_moved (some_field (field_names rest) locals test)
+    (some_field (declared_names variables) locals test) (some_field names locals test)
+    ∙ ap (λ t. t || some_field names locals test)
+    (sym (some-append (declared_names variables) (field_names rest) locals test))
+some_of_fields names (tree.Init body ∷ rest) locals test = some_of_fields names rest locals test
+some_of_fields names (tree.Prework rates body ∷ rest) locals test =
+    some_of_fields names rest locals test
+some_of_fields names (tree.Work rates body ∷ rest) locals test =
+    some_of_fields names rest locals test
+some_of_fields names (tree.Helper kind name parameters body ∷ rest) locals test =
+    some_of_fields names rest locals test
 
 -- a walk that begins with the names of all fields
+walk_from : (members : List tree.Member) (locals : Locals) (block : tree.Stmts)
+    → stmts_write_field (with_fields [] members) locals block
+    ≡ some_field (field_names members) locals (λ name. stmts_write name block)
+walk_from members locals block =
+    stmts_walk (with_fields [] members) locals block
+    ∙ some_of_fields [] members locals (λ name. stmts_write name block)
+    ∙ or_false (some_field (field_names members) locals (λ name. stmts_write name block))
+
 pub walk_tells : (members : List tree.Member) (block : tree.Stmts)
     → stmts_write_field (with_fields [] members) [] block
     ≡ write_one_of (field_names members) block
-walk_tells members block =
-    stmts_walk (with_fields [] members) [] block
-    ∙ (some_one_of (with_fields [] members) block
-    ∙ (one_of_fields [] members block
-    ∙ or_false (write_one_of (field_names members) block)))
+walk_tells members block = walk_from members [] block ∙ some_one_of (field_names members) block
+
+-- ---- all fields, after parameters
+
+-- the other fields are those that no local variable hides
+some_shown : (fields : List (List ℕ)) (locals : Locals) (block : tree.Stmts)
+    → some_field fields locals (λ name. stmts_write name block)
+    ≡ write_one_of (not_hidden locals fields) block
+some_shown [] locals block = refl
+some_shown (name ∷ rest) locals block =
+    by_hidden (has_name locals name) (some_shown rest locals block)
+  where
+    by_hidden : (hidden : Bool)
+        → some_field rest locals (λ name. stmts_write name block)
+        ≡ write_one_of (not_hidden locals rest) block
+        → ((not hidden && stmts_write name block)
+        || some_field rest locals (λ name. stmts_write name block))
+        ≡ write_one_of (cond hidden (not_hidden locals rest) (name ∷ not_hidden locals rest)) block
+    by_hidden true e = e
+    by_hidden false e = ap (λ t. stmts_write name block || t) e
+
+-- what is hidden is told by which names there are, in whichever order
+some_hidden_alike : (fields : List (List ℕ)) (first second : Locals) (test : List ℕ → Bool)
+    → ((name : List ℕ) → has_name first name ≡ has_name second name)
+    → some_field fields first test ≡ some_field fields second test
+some_hidden_alike [] first second test same = refl
+some_hidden_alike (name ∷ rest) first second test same =
+    ap (λ t. (not t && test name) || some_field rest first test) (same name)
+    ∙ ap (λ t. (not (has_name second name) && test name) || t)
+    (some_hidden_alike rest first second test same)
+
+has_parameter : (names parameters : List (List ℕ)) (name : List ℕ)
+    → has_name (with_parameters names parameters) name
+    ≡ (has_name parameters name || has_name names name)
+has_parameter names [] name = refl
+has_parameter names (first ∷ rest) name =
+    has_parameter (first ∷ names) rest name
+    ∙ or_moved (has_name rest name) (bytes_eq first name) (has_name names name)
+
+-- a walk over the block of a helper function begins with its parameters
+pub helper_walk_tells : (members : List tree.Member) (parameters : List (List ℕ))
+    (block : tree.Stmts)
+    → stmts_write_field (with_fields [] members) (with_parameters [] parameters) block
+    ≡ write_one_of (not_hidden parameters (field_names members)) block
+helper_walk_tells members parameters block =
+    walk_from members (with_parameters [] parameters) block
+    ∙ some_hidden_alike (field_names members) (with_parameters [] parameters) parameters
+    (λ name. stmts_write name block)
+    (λ name. has_parameter [] parameters name ∙ or_false (has_name parameters name))
+    ∙ some_shown (field_names members) parameters block

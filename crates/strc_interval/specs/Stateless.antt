@@ -1,9 +1,13 @@
 -- Which filters have no state: all their firings are alike, so that copies can share them.
-use Rattle.std.specs.Prelude.{ℕ, Bool, false, not, ◌&&◌, ◌||◌, List, [], ◌∷◌, is_some}
+use Rattle.std.specs.Prelude.{ℕ, zero, suc, Bool, false, not, ◌&&◌, ◌||◌, List, [], ◌∷◌, Option}
+use Rattle.std.specs.Prelude.{Some, None, is_some, if◌then◌else◌}
+use Rattle.strc_base.specs.Names.{has_name}
 use Rattle.strc_syntax.specs.Tree as tree
 use Rattle.strc_semantics.specs.Filters.{Filter, field_names, work_block, prework_block}
-use Rattle.strc_semantics.specs.Filters.{filter_prints}
+use Rattle.strc_semantics.specs.Filters.{filter_prints, Helper, helper_named}
+use Rattle.strc_semantics.specs.Firing.{call_limit}
 use Rattle.strc_interval.specs.Loops.{stmts_write}
+use Rattle.strc_interval.specs.Calls.{stmts_call_one}
 
 -- whether statements write one of the variables that these names have where the statements are, or
 -- an element of one
@@ -16,7 +20,44 @@ write_one_of (name ∷ rest) block = stmts_write name block || write_one_of rest
 abbrev pub writes_field : Filter → Bool
 writes_field filter = write_one_of (field_names filter.members) (work_block filter.members)
 
--- a filter of one body, which neither prints nor writes a field
+-- ---- helper functions
+
+-- those of these names that no inner variable hides
+abbrev pub not_hidden : (inner names : List (List ℕ)) → List (List ℕ)
+not_hidden inner [] = []
+not_hidden inner (name ∷ rest) =
+    if has_name inner name then not_hidden inner rest else name ∷ not_hidden inner rest
+
+-- whether the block of a helper function itself writes a field, or an element of one; a parameter
+-- or a local variable that hides a field is none
+abbrev pub helper_writes_field : List tree.Member → Helper → Bool
+helper_writes_field members helper =
+    write_one_of (not_hidden helper.parameters (field_names members)) helper.block
+
+-- whether a helper function writes a field, or calls one of these functions
+abbrev pub writes_or_calls : List tree.Member → (such : List ℕ → Bool) → Helper → Bool
+writes_or_calls members such helper =
+    helper_writes_field members helper || stmts_call_one such helper.block
+
+abbrev pub named_writes : List tree.Member → (such : List ℕ → Bool) → Option Helper → Bool
+named_writes members such None = false
+named_writes members such (Some helper) = writes_or_calls members such helper
+
+-- whether a call of the helper function of a name can write a field, where so many calls, it among
+-- them, may be running at once
+abbrev pub writes_within : List tree.Member → (levels : ℕ) → List ℕ → Bool
+writes_within members zero name = false
+writes_within members (suc levels) name =
+    named_writes members (writes_within members levels) (helper_named members name)
+
+-- whether the work calls a helper function that can write a field, itself or by its own calls
+abbrev pub calls_writer : Filter → Bool
+calls_writer filter =
+    stmts_call_one (writes_within filter.members call_limit) (work_block filter.members)
+
+-- ---- filters
+
+-- a filter of one body, which neither prints nor writes a field; calls aren't run as yet
 abbrev pub is_stateless : Filter → Bool
 is_stateless filter =
     not (is_some (prework_block filter.members))

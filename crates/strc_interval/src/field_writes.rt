@@ -31,7 +31,7 @@ pub fn writes_field(alloc: Global, members: &[Member], work: &[Stmt]) -> Result<
 }
 
 /// Adds the names of the fields that members declare.
-fn declare_fields(fields: &mut Scope, members: &[Member]) -> Result<(), NoMemory>
+pub(crate) fn declare_fields(fields: &mut Scope, members: &[Member]) -> Result<(), NoMemory>
     ensures { OnOk result (fields.new ≡ spec.with_fields fields.old (members_of members.now)) }
 {
     for member in members {
@@ -54,7 +54,11 @@ fn declare_names(names: &mut Scope, variables: &[Variable]) -> Result<(), NoMemo
 
 /// Whether statements in a row write a field. Where they don't, the local variables are as before.
 #[cycle(statement)]
-fn block_writes_field(fields: &Scope, locals: &mut Scope, block: &[Stmt]) -> Result<bool, NoMemory>
+pub(crate) fn block_writes_field(
+    fields: &Scope,
+    locals: &mut Scope,
+    block: &[Stmt],
+) -> Result<bool, NoMemory>
     ensures writes { IfOk result (λ writes. writes
         ≡ spec.stmts_write_field fields.now locals.old (block_view block.now)) }
     ensures locals { IfOk result (λ writes. writes ≡ false → locals.new ≡ locals.old) }

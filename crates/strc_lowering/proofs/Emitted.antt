@@ -1,5 +1,6 @@
 -- The code of operators and statements, piece by piece.
-use Rattle.std.proofs.Common.{◌≡◌, ℕ, ◌+◌, ◌-◌, Bool, true, false, cond, List, [], ◌∷◌, length}
+use Rattle.std.proofs.Common.{◌≡◌, ℕ, ◌+◌, ◌-◌, Bool, true, false, ◌||◌, cond, List, [], ◌∷◌}
+use Rattle.std.proofs.Common.{length}
 use Rattle.std.proofs.Common.{drop, Some, None, Result, Ok, Err, OnOk, refl, sym, ap, ◌∙◌}
 use Rattle.std.specs.Prelude.{unwrap_or}
 use Rattle.strc_syntax.specs.declared.tree.AssignOperator.{AssignOperator}
@@ -12,22 +13,41 @@ use Rattle.strc_syntax.specs.declared.tree.BinaryOperator.{BinaryOperator}
 use Rattle.strc_syntax.specs.declared.tree.BinaryOperator.TheVariants as binary
 use Rattle.strc_code.specs.Nodes.{Nodes, before}
 use Rattle.strc_code.specs.Lowering.{one, unless_there, writes_no_variable, binary_step, expr_nodes}
-use Rattle.strc_code.specs.Lowering.{operand_nodes, operand_slot, initial_nodes, variables_nodes}
+use Rattle.strc_code.specs.Lowering.{arguments_nodes, operand_nodes, operand_slot, initial_nodes}
+use Rattle.strc_code.specs.Lowering.{variables_nodes}
 use Rattle.strc_code.specs.Lowering.{field_nodes, fields_nodes, initials_nodes, inits_nodes}
 use Rattle.strc_code.specs.Lowering.{stmt_nodes, stmts_nodes, element_nodes, compound_nodes}
+use Rattle.strc_code.specs.Lowering.{unless_answered}
+use Rattle.strc_semantics.specs.Returns.{stmt_returns}
 use Rattle.strc_semantics.specs.Scoping.{Scope, names_after, total, slot_of, size_of}
 use Rattle.strc_semantics.proofs.Growth.{drop_inner, base_of_after, base_of_itself}
 use Rattle.strc_code.proofs.Nodes.{before_assoc, before_end}
 
 -- the code of one more statement
-pub stmts_nodes_more : (names names' : Scope) (old new : Nodes) (first : tree.Stmt)
-    (rest : tree.Stmts) → new ≡ before old (stmt_nodes names first)
-    → names' ≡ names_after names first → before new (stmts_nodes names' rest)
-    ≡ before old (stmts_nodes names (tree.Then first rest))
-stmts_nodes_more names names' old new first rest code scope =
-    ap (λ n. before new (stmts_nodes n rest)) scope
-    ∙ ap (λ s. before s (stmts_nodes (names_after names first) rest)) code
-    ∙ before_assoc old (stmt_nodes names first) (stmts_nodes (names_after names first) rest)
+pub stmts_nodes_more : (names names' : Scope) (returns returns' : Bool) (old new : Nodes)
+    (first : tree.Stmt) (rest : tree.Stmts)
+    → new ≡ before old (unless_answered names returns (stmt_nodes names first))
+    → names' ≡ names_after names first → returns' ≡ returns || stmt_returns first
+    → before new (stmts_nodes names' returns' rest)
+    ≡ before old (stmts_nodes names returns (tree.Then first rest))
+stmts_nodes_more names names' returns returns' old new first rest code scope returning =
+    let after = names_after names first in
+    ap (λ n. before new (stmts_nodes n returns' rest)) scope
+    ∙ ap (λ r. before new (stmts_nodes after r rest)) returning
+    ∙ ap (λ s. before s (stmts_nodes after (returns || stmt_returns first) rest)) code
+    ∙ before_assoc old (unless_answered names returns (stmt_nodes names first))
+    (stmts_nodes after (returns || stmt_returns first) rest)
+
+-- the code of one more argument
+pub arguments_nodes_more : (names : Scope) (slot next : ℕ) (old new : Nodes) (first : tree.Expr)
+    (rest : tree.Arguments) → next ≡ slot + 1
+    → new ≡ before old (expr_nodes names first slot next)
+    → before new (arguments_nodes names rest next)
+    ≡ before old (arguments_nodes names (tree.Argument first rest) slot)
+arguments_nodes_more names slot next old new first rest e code =
+    ap (λ s. before s (arguments_nodes names rest next)) code
+    ∙ before_assoc old (expr_nodes names first slot next) (arguments_nodes names rest next)
+    ∙ ap (λ n. before old (before (expr_nodes names first slot n) (arguments_nodes names rest n))) e
 
 -- the names that are left after a statement in a scope of its own
 pub left_after : (names : Scope) (s : tree.Stmt)
@@ -75,7 +95,7 @@ inits_split : (names : Scope) (first : tree.Member) (rest : List tree.Member)
     ≡ inits_nodes names (first ∷ rest)
 inits_split names (tree.Fields kind variables) rest = refl
 inits_split names (tree.Init block) rest =
-    ap (λ n. before n (inits_nodes names rest)) (before_end (stmts_nodes names block))
+    ap (λ n. before n (inits_nodes names rest)) (before_end (stmts_nodes names false block))
 inits_split names (tree.Prework rates block) rest = refl
 inits_split names (tree.Work rates block) rest = refl
 inits_split names (tree.Helper kind name parameters block) rest = refl

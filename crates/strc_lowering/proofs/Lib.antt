@@ -4,3 +4,4 @@ pub mod Emitted
 pub mod Built
 pub mod Flattening
 pub mod HalfBranches
+pub mod HelperScopes

@@ -11,6 +11,8 @@ use Rattle.strc_code.specs.declared.code.Routine.{Routine}
 use Rattle.strc_code.specs.Nodes.{before}
 use Rattle.strc_code.specs.Code.{code_of}
 use Rattle.strc_code.specs.Flat.{IsFlat}
+use Rattle.strc_code.specs.declared.helper.HelperCode.{HelperCode}
+use Rattle.strc_code.specs.Helpers.{AreHelpers}
 use Rattle.strc_code.specs.Lowering.{stmts_nodes, initials_nodes, inits_nodes}
 use Rattle.strc_code.specs.Lowered.{limits_of}
 use Rattle.strc_code.proofs.Totals.{total-reverse}
@@ -44,7 +46,7 @@ pub work_first : (names : Scope) (members : List tree.Member)
     → is_some (prework_block members) ≡ false → (work : Routine)
     → IsRoutine names members body.Work work → IsRoutine names members body.Prework work
 work_first names members none work w = record {
-  code = w.code ∙ ap (stmts_nodes names) (sym (no_prework_block members none));
+  code = w.code ∙ ap (stmts_nodes names false) (sym (no_prework_block members none));
   flat = w.flat;
   limits = w.limits ∙ ap limits_of (sym (no_prework_rates members none));
 }
@@ -60,14 +62,17 @@ bodies_of members names one prework work same w p = record {
 
 -- the parts, each where these names can be seen
 pub parts_of : (members : List tree.Member) (names one : Scope) (fields : ℕ) (start : Routine)
-    (prework : Option Routine) (work : Routine) → names ≡ reverse (sized_fields members)
+    (prework : Option Routine) (work : Routine) (helpers : List HelperCode)
+    → names ≡ reverse (sized_fields members) → AreHelpers names members helpers
     → one ≡ names → fields ≡ total names
     → code_of start.code ≡ before (initials_nodes names members) (inits_nodes names members)
     → IsFlat start.flat (code_of start.code) → AreBodies one members prework work
-    → AreParts members fields start prework work
-parts_of members names one fields start prework work is same count code flat bodies = record {
-  count = count ∙ ap total is ∙ total-reverse (sized_fields members);
-  initial = code ∙ ap (λ n. before (initials_nodes n members) (inits_nodes n members)) is;
-  flat = flat;
-  bodies = subst (λ n. AreBodies n members prework work) (same ∙ is) bodies;
-}
+    → AreParts members fields start prework work helpers
+parts_of members names one fields start prework work helpers is are same count code flat bodies =
+    record {
+      count = count ∙ ap total is ∙ total-reverse (sized_fields members);
+      initial = code ∙ ap (λ n. before (initials_nodes n members) (inits_nodes n members)) is;
+      flat = flat;
+      bodies = subst (λ n. AreBodies n members prework work) (same ∙ is) bodies;
+      helpers_are = subst (λ n. AreHelpers n members helpers) is are;
+    }

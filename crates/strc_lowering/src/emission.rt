@@ -1,6 +1,6 @@
 // From a resolved filter to its code.
 
-ghost use Rattle.std.specs.Prelude.{◌≡◌, [], ◌∷◌, IfOk, OnOk, map, reverse};
+ghost use Rattle.std.specs.Prelude.{◌≡◌, false, [], ◌∷◌, IfOk, OnOk, map, reverse};
 ghost use Rattle.std.specs.Option.{option_map};
 ghost use Rattle.strc_syntax.specs.View.{expr_view, variable_view, member_view};
 ghost use Rattle.strc_semantics.specs.Filters.{members_of, filter_of, sized_fields, body_block};
@@ -17,6 +17,7 @@ ghost use Rattle.strc_lowering.specs.Written.{written};
 
 use crate::builder::Builder;
 use crate::expression_code::emit_expr;
+use crate::helper_code::emit_helpers;
 use crate::layout::Layout;
 use crate::operands::cells_of;
 use crate::routine::routine_of;
@@ -25,6 +26,7 @@ use std::alloc::Global;
 use strc_base::memory::NoMemory;
 use strc_code::bodies;
 use strc_code::code::{Code, Routine};
+use strc_code::helper::HelperCode;
 use strc_code::limits::FiringLimits;
 use strc_semantics::body::Body;
 use strc_syntax::tree::{FilterTree, Member, Variable};
@@ -35,6 +37,7 @@ struct Parts {
     start: Routine,
     prework: Option<Routine>,
     work: Routine,
+    helpers: Vec<HelperCode>,
 }
 
 /// The code of a filter that keeps the rules.
@@ -47,17 +50,19 @@ pub fn emit_filter(alloc: Global, tree: FilterTree) -> Result<Code, NoMemory>
         start,
         prework,
         work,
+        helpers,
     } = emit_parts(alloc, &tree.members)?;
-    Code::of_parts(alloc, tree, fields, start, prework, work)
+    Code::of_parts(alloc, tree, fields, start, prework, work, helpers)
 }
 
 /// The parts of a filter's code.
 fn emit_parts(alloc: Global, members: &[Member]) -> Result<Parts, NoMemory>
     ensures { IfOk result (λ parts. AreParts (members_of members.now) parts.fields parts.start
-        parts.prework parts.work) }
+        parts.prework parts.work parts.helpers.items) }
 {
     let mut names = field_layout(alloc, members)?;
     let fields = names.total() as usize;
+    let helpers = emit_helpers(alloc, &mut names, members)?;
     let start = emit_start(alloc, &mut names, members)?;
     let (prework, work) = emit_bodies(alloc, &mut names, members)?;
     Ok(Parts {
@@ -65,6 +70,7 @@ fn emit_parts(alloc: Global, members: &[Member]) -> Result<Parts, NoMemory>
         start,
         prework,
         work,
+        helpers,
     })
 }
 
@@ -228,7 +234,7 @@ fn emit_routine(
     members: &[Member],
 ) -> Result<Routine, NoMemory>
     ensures code { IfOk result (λ routine. code_of routine.code
-        ≡ spec.stmts_nodes names.old (body_block body (members_of members.now))) }
+        ≡ spec.stmts_nodes names.old false (body_block body (members_of members.now))) }
     ensures flat { IfOk result (λ routine. IsFlat routine.flat (code_of routine.code)) }
     ensures limits { IfOk result (λ routine. routine.limits
         ≡ lowered.limits_of (body_rates body (members_of members.now))) }

@@ -2,7 +2,7 @@
 
 ghost use Rattle.std.specs.Prelude.{◌≡◌, ◌+◌, true, IfOk, OnOk};
 ghost use Rattle.strc_syntax.specs.Tree as tree;
-ghost use Rattle.strc_syntax.specs.View.{expr_view};
+ghost use Rattle.strc_syntax.specs.View.{expr_view, listed_view};
 ghost use Rattle.strc_semantics.specs.Scoping.{total, slot_of};
 ghost use Rattle.strc_code.specs.Nodes.{before};
 ghost use Rattle.strc_code.specs.Lowering as spec;
@@ -19,7 +19,9 @@ use crate::operands::{
 };
 use strc_base::memory::NoMemory;
 use strc_base::name::Name;
+use strc_code::call::Call;
 use strc_code::inst::Inst;
+use strc_code::node::Node;
 use strc_semantics::arithmetic::truth;
 use strc_syntax::tree::{AssignOperator, BinaryOperator, Expr, StepOperator, UnaryOperator};
 
@@ -51,7 +53,7 @@ pub fn emit_expr(
         Expr::Read(name) => code.put(Inst::Copy(into, names.slot_of(name))),
         Expr::Pop => code.put(Inst::Pop(into)),
         Expr::Peek(index) => emit_use(code, names, Use::Peek, index, into, free),
-        Expr::Call(_, _) => Ok(()),
+        Expr::Call(name, arguments) => emit_call(code, names, name, arguments, into, free),
         Expr::Group(inner) => emit_expr(code, names, inner, into, free),
         Expr::Unary(operator, operand) => {
             emit_use(code, names, Use::Unary(*operator), operand, into, free)
@@ -78,6 +80,52 @@ pub fn emit_expr(
             emit_use(code, names, Use::Step(*operator, place), index, into, free)
         }
     }
+}
+
+/// The code of a call: its arguments into the first free slots, and then the call.
+#[cycle(expression)]
+#[tactic(auto, using(strc_code::proofs::Nodes::before_assoc))]
+fn emit_call(
+    code: &mut Builder,
+    names: &Layout,
+    name: &Name,
+    arguments: &[Expr],
+    into: u32,
+    free: u32,
+) -> Result<(), NoMemory>
+    ensures { OnOk result (written code.new ≡ before (written code.old)
+        (spec.expr_nodes names.now (tree.Call name.now (listed_view arguments.now)) into free)) }
+{
+    let end = emit_arguments(code, names, arguments, free)?;
+    let call = Call {
+        name: name.copy()?,
+        first: free,
+        count: end - free,
+        into,
+    };
+    code.put_node(Node::Call(call))
+}
+
+/// The code that puts the values of arguments into slots, from `free` on, and the slot after them.
+#[cycle(expression)]
+fn emit_arguments(
+    code: &mut Builder,
+    names: &Layout,
+    arguments: &[Expr],
+    free: u32,
+) -> Result<u32, NoMemory>
+    ensures { IfOk result
+        (λ end. (end ≡ free + spec.argument_count (listed_view arguments.now))
+        × (written code.new ≡ before (written code.old)
+        (spec.arguments_nodes names.now (listed_view arguments.now) free))) }
+{
+    let mut slot = free;
+    for argument in arguments {
+        let next = names.after(slot)?;
+        emit_expr(code, names, argument, slot, next)?;
+        slot = next;
+    }
+    Ok(slot)
 }
 
 /// The code of an operand, and what is done with it.

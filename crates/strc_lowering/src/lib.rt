@@ -10,6 +10,7 @@ mod builder;
 mod comparison;
 pub mod emission;
 mod expression_code;
+mod helper_code;
 mod kept;
 mod layout;
 mod linearize;

@@ -1,12 +1,14 @@
 // The code of statements.
 
-ghost use Rattle.std.specs.Prelude.{◌≡◌, ◌+◌, true, ◌∷◌, Some, IfOk, OnOk, map};
+ghost use Rattle.std.specs.Prelude.{◌≡◌, ◌+◌, true, false, pos, ◌∷◌, Some, IfOk, OnOk, map};
 ghost use Rattle.std.specs.Option.{option_map};
 ghost use Rattle.strc_syntax.specs.View.{expr_view, variable_view, stmt_view, block_view};
 ghost use Rattle.strc_syntax.specs.Tree as tree;
 ghost use Rattle.strc_code.specs.Nodes.{End, Choice, Loop, before};
 ghost use Rattle.strc_code.specs.Lowering as spec;
-ghost use Rattle.strc_semantics.specs.Scoping.{names_after, total, with_declared};
+ghost use Rattle.strc_code.specs.declared.inst.Inst.TheVariants as act;
+ghost use Rattle.strc_semantics.specs.Scoping.{answer_name, names_after, slot_of, total};
+ghost use Rattle.strc_semantics.specs.Scoping.{with_declared};
 ghost use Rattle.strc_lowering.specs.Emission.{output_step};
 ghost use Rattle.strc_lowering.specs.Written.{written};
 
@@ -17,7 +19,9 @@ use crate::expression_code::{
 use crate::layout::Layout;
 use crate::operands::{cells_of, slot_past, zeros_step};
 use strc_base::memory::NoMemory;
+use strc_base::name::Name;
 use strc_code::inst::Inst;
+use strc_code::returns::stmt_returns;
 use strc_syntax::tree::{Expr, Stmt, Variable};
 
 /// Where a value goes.
@@ -32,15 +36,41 @@ enum Output {
 #[cycle(statement)]
 pub fn emit_block(code: &mut Builder, names: &mut Layout, block: &[Stmt]) -> Result<(), NoMemory>
     ensures code { OnOk result (written code.new
-        ≡ before (written code.old) (spec.stmts_nodes names.old (block_view block.now))) }
+        ≡ before (written code.old) (spec.stmts_nodes names.old false (block_view block.now))) }
     ensures names { OnOk result (names.new ≡ names.old) }
 {
     let start = names.len();
+    let mut returns = false;
     for statement in block {
-        emit_stmt(code, names, statement)?;
+        emit_after(code, names, returns, statement)?;
+        returns |= stmt_returns(statement);
     }
     names.leave(start);
     Ok(())
+}
+
+/// The code of a statement, which is left out once the helper has returned where a `return` may
+/// stand before it.
+#[cycle(statement)]
+fn emit_after(
+    code: &mut Builder,
+    names: &mut Layout,
+    returns: bool,
+    statement: &Stmt,
+) -> Result<(), NoMemory>
+    ensures code { OnOk result (written code.new ≡ before (written code.old)
+        (spec.unless_answered names.old returns
+        (spec.stmt_nodes names.old (stmt_view statement.now)))) }
+    ensures names { OnOk result (names.new ≡ names_after names.old (stmt_view statement.now)) }
+{
+    if !returns {
+        return emit_stmt(code, names, statement);
+    }
+    let answer = answer_slot(names);
+    let mut apart = Builder::new(names.allocator());
+    emit_stmt(&mut apart, names, statement)?;
+    let nothing = Builder::new(names.allocator());
+    code.put_choice(answer, nothing, apart)
 }
 
 /// The code of a statement.
@@ -75,7 +105,7 @@ fn emit_stmt(code: &mut Builder, names: &mut Layout, statement: &Stmt) -> Result
         }
         Stmt::While(condition, body) => {
             let turn = emit_apart(names, body)?;
-            emit_while(code, names, condition, turn)
+            emit_while(code, names, condition, stmt_returns(body), turn)
         }
         Stmt::For(first, condition, step, body) => {
             emit_for(code, names, first, condition, step, body)
@@ -83,7 +113,7 @@ fn emit_stmt(code: &mut Builder, names: &mut Layout, statement: &Stmt) -> Result
         Stmt::Push(value) => emit_output(code, names, Output::Push, value),
         Stmt::Print(value) => emit_output(code, names, Output::Print, value),
         Stmt::Println(value) => emit_output(code, names, Output::Println, value),
-        Stmt::Return(_) => Ok(()),
+        Stmt::Return(value) => emit_return(code, names, value),
     }
 }
 
@@ -106,8 +136,30 @@ fn emit_for(
     let start = names.len();
     emit_stmt(code, names, first)?;
     let mut turn = emit_apart(names, body)?;
-    emit_inside(&mut turn, names, step)?;
-    emit_loop(code, names, condition, turn)?;
+    let returns = stmt_returns(body);
+    emit_step(&mut turn, names, returns, step)?;
+    emit_loop(code, names, condition, returns, turn)?;
+    names.leave(start);
+    Ok(())
+}
+
+/// The code of a loop's step, in a scope of its own; it is left out once the helper has returned
+/// where a `return` may stand in the loop's body.
+#[cycle(statement)]
+#[tactic(auto, using(crate::proofs::Emitted::left_after))]
+fn emit_step(
+    code: &mut Builder,
+    names: &mut Layout,
+    returns: bool,
+    step: &Stmt,
+) -> Result<(), NoMemory>
+    ensures code { OnOk result (written code.new ≡ before (written code.old)
+        (spec.unless_answered names.old returns
+        (spec.stmt_nodes names.old (stmt_view step.now)))) }
+    ensures names { OnOk result (names.new ≡ names.old) }
+{
+    let start = names.len();
+    emit_after(code, names, returns, step)?;
     names.leave(start);
     Ok(())
 }
@@ -161,14 +213,22 @@ fn emit_while(
     code: &mut Builder,
     names: &Layout,
     condition: &Expr,
+    returns: bool,
     turn: Builder,
 ) -> Result<(), NoMemory>
     ensures { OnOk result (written code.new ≡ before (written code.old)
-        (Loop (spec.condition_nodes names.now (Some (expr_view condition.now)))
-        (spec.condition_slot names.now (Some (expr_view condition.now))) (written turn) End)) }
+        (Loop (spec.loop_test names.now returns (Some (expr_view condition.now)))
+        (spec.loop_slot names.now returns (Some (expr_view condition.now))) (written turn) End)) }
 {
     let mut test = Builder::new(names.allocator());
-    let slot = emit_operand(&mut test, names, condition, true, names.total())?;
+    let free = names.total();
+    if returns {
+        let mut held = Builder::new(names.allocator());
+        emit_expr(&mut held, names, condition, free, names.after(free)?)?;
+        emit_test_unless_answered(&mut test, names, held)?;
+        return code.put_loop(test, free, turn);
+    }
+    let slot = emit_operand(&mut test, names, condition, true, free)?;
     code.put_loop(test, slot, turn)
 }
 
@@ -177,16 +237,67 @@ fn emit_loop(
     code: &mut Builder,
     names: &Layout,
     condition: &Option<Expr>,
+    returns: bool,
     turn: Builder,
 ) -> Result<(), NoMemory>
     ensures { OnOk result (written code.new ≡ before (written code.old)
-        (Loop (spec.condition_nodes names.now (option_map expr_view condition.now))
-        (spec.condition_slot names.now (option_map expr_view condition.now))
+        (Loop (spec.loop_test names.now returns (option_map expr_view condition.now))
+        (spec.loop_slot names.now returns (option_map expr_view condition.now))
         (written turn) End)) }
 {
+    if let Some(condition) = condition {
+        return emit_while(code, names, condition, returns, turn);
+    }
     let mut test = Builder::new(names.allocator());
-    let slot = emit_condition(&mut test, names, condition)?;
-    code.put_loop(test, slot, turn)
+    let free = names.total();
+    if returns {
+        let mut held = Builder::new(names.allocator());
+        held.put(Inst::Const(free, 1))?;
+        emit_test_unless_answered(&mut test, names, held)?;
+    } else {
+        // A loop without a condition goes on.
+        test.put(Inst::Const(free, 1))?;
+    }
+    code.put_loop(test, free, turn)
+}
+
+/// The code of a loop's test, which doesn't hold once the helper has returned; else what is held is
+/// its value, in the first free slot.
+#[tactic(auto, using(strc_code::proofs::Nodes::before_end))]
+fn emit_test_unless_answered(
+    test: &mut Builder,
+    names: &Layout,
+    held: Builder,
+) -> Result<(), NoMemory>
+    ensures { OnOk result (written test.new ≡ before (written test.old)
+        (Choice (slot_of names.now answer_name) (spec.one (act.Const (total names.now) (pos 0)))
+        (written held) End)) }
+{
+    let mut ended = Builder::new(names.allocator());
+    ended.put(Inst::Const(names.total(), 0))?;
+    test.put_choice(answer_slot(names), ended, held)
+}
+
+/// The code of a `return`.
+#[tactic(auto, using(strc_code::proofs::Nodes::before_assoc))]
+fn emit_return(code: &mut Builder, names: &Layout, value: &Option<Expr>) -> Result<(), NoMemory>
+    ensures { OnOk result (written code.new ≡ before (written code.old)
+        (spec.return_nodes names.now (option_map expr_view value.now))) }
+{
+    let answer = answer_slot(names);
+    if let Some(value) = value {
+        let into = names.after(answer)?;
+        emit_expr(code, names, value, into, names.total())?;
+    }
+    code.put(Inst::Const(answer, 1))
+}
+
+/// The slot that tells whether the helper has returned.
+fn answer_slot(names: &Layout) -> u32
+    ensures { result ≡ slot_of names.now answer_name }
+{
+    let name = Name::new(Vec::new(names.allocator()));
+    names.slot_of(&name)
 }
 
 /// The code that puts out an expression's value.
@@ -206,28 +317,6 @@ fn emit_output(
         Output::Print => Inst::Print(from),
         Output::Println => Inst::Println(from),
     })
-}
-
-/// The code of a loop's condition, and the slot that is tested.
-fn emit_condition(
-    code: &mut Builder,
-    names: &Layout,
-    condition: &Option<Expr>,
-) -> Result<u32, NoMemory>
-    ensures { IfOk result
-        (λ at. (at ≡ spec.condition_slot names.now (option_map expr_view condition.now))
-        × (written code.new ≡ before (written code.old)
-        (spec.condition_nodes names.now (option_map expr_view condition.now)))) }
-{
-    let free = names.total();
-    match condition {
-        // A loop without a condition goes on.
-        None => {
-            code.put(Inst::Const(free, 1))?;
-            Ok(free)
-        }
-        Some(condition) => emit_operand(code, names, condition, true, free),
-    }
 }
 
 /// The code of variables that are declared one after another.

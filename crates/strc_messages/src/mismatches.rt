@@ -3,9 +3,9 @@
 use std::alloc::AllocError;
 use strc_base::place::Span;
 use strc_check::site::{Mismatch, Part};
-use strc_check::types::ValueType;
 use strc_places::known::Known;
 use strc_places::places::{kind_keyword, part_keyword};
+use strc_semantics::types::ValueType;
 use strc_source::message::Message;
 use strc_syntax::tree::CompositeKind;
 
@@ -87,7 +87,12 @@ fn plain_rule(mismatch: Mismatch) -> &'static [u8] {
         Mismatch::NoPrinting => b"nothing can be printed here",
         Mismatch::RateWithoutItems => b"a rate is above 0 on a side that has no items",
         Mismatch::HelperFunction => b"helper functions can't be run yet",
+        Mismatch::NoCalls => b"no helper function can be called here",
+        Mismatch::NothingGiven => b"a value is wanted here, and this helper function gives none",
+        Mismatch::FlowInHelper => b"a helper function doesn't pop, peek, push or print",
         Mismatch::NoHelper => b"only a helper function returns",
+        Mismatch::ValueMissing => b"this helper function gives a value, and none is returned here",
+        Mismatch::ValueUnwanted => b"this helper function gives no value, and one is returned here",
         Mismatch::StreamStatement => b"a filter has no statements that put streams together",
         Mismatch::FilterStatement => b"only a filter pushes or prints",
         Mismatch::Follows => b"this child doesn't take what the child before it gives",
@@ -134,7 +139,12 @@ pub(crate) fn mismatch_hint(mismatch: Mismatch) -> &'static [u8] {
         Mismatch::NoPrinting => b"print and println are for work and prework",
         Mismatch::RateWithoutItems => b"a filter's type says what it takes and gives",
         Mismatch::HelperFunction => b"write its statements where it is called",
+        Mismatch::NoCalls => b"fields, init, prework, work and helper functions call them",
+        Mismatch::NothingGiven => b"its call is a statement of its own",
+        Mismatch::FlowInHelper => b"do it in work, and give the helper function what it needs",
         Mismatch::NoHelper => b"a filter gives an item by `push`",
+        Mismatch::ValueMissing => b"write the value, as `return 0;`",
+        Mismatch::ValueUnwanted => b"write `return;`, or give the helper function a type",
         Mismatch::StreamStatement => b"streams are added in a pipeline or a splitjoin",
         Mismatch::FilterStatement => b"it is for the work of a filter",
         Mismatch::Follows => b"see what each child takes and gives",

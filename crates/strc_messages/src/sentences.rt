@@ -14,7 +14,7 @@ pub(crate) fn plain_sentence(source: Source<'_>, refusal: &Refusal) -> &'static 
             b"a type, a kind or a part isn't the one that must be there"
         }
         Refusal::BadArguments { .. } => {
-            b"the stream that is added here gets another number of arguments than it has parameters"
+            b"another number of arguments is given here than there are parameters"
         }
         Refusal::BadWeights { .. } => b"the weights in this statement don't fit its children",
         Refusal::RateUnknown { .. } => b" pushes or pops a number of items that can't be counted",

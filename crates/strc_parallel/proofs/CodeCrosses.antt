@@ -17,6 +17,7 @@ use Rattle.strc_syntax.specs.contracts.tree.Member as Member
 use Rattle.strc_syntax.specs.contracts.tree.FilterTree as FilterTree
 use Rattle.strc_code.proofs.node.Node.TheLaws.TheKnot as nodes
 use Rattle.strc_code.specs.contracts.condition.Condition as Condition
+use Rattle.strc_code.specs.contracts.helper.HelperCode as HelperCode
 use Rattle.strc_code.specs.contracts.inst.Inst as Inst
 use Rattle.strc_code.specs.contracts.limits.FiringLimits as FiringLimits
 use Rattle.strc_code.specs.contracts.node.Node as Node
@@ -146,11 +147,29 @@ routine_send = search (node_send, limits_send, sendable) depth 60 fits 20000
 routine_sync : IsSync (Routine.the_field).row
 routine_sync = search (node_sync, limits_sync, sendable) depth 60 fits 20000
 
+helper_send : IsSend (HelperCode.the_field).row
+helper_send = search (name_send, node_send, sendable) depth 60 fits 20000
+
+helper_sync : IsSync (HelperCode.the_field).row
+helper_sync = search (name_sync, node_sync, sendable) depth 60 fits 20000
+
 lowered_send : IsSend (Lowered.the_field).row
-lowered_send = search (tree_send, routine_send, sendable) depth 60 fits 20000
+lowered_send = search (
+  tree_send,
+  routine_send,
+  helper_send,
+  heap.crosses,
+  sendable,
+) depth 60 fits 20000
 
 lowered_sync : IsSync (Lowered.the_field).row
-lowered_sync = search (tree_sync, routine_sync, sendable) depth 60 fits 20000
+lowered_sync = search (
+  tree_sync,
+  routine_sync,
+  helper_sync,
+  heap.crosses,
+  sendable,
+) depth 60 fits 20000
 
 pub code_send : IsSend Code.the_row
 code_send = search (lowered_send, lowered_sync, heap.crosses, sendable) depth 60 fits 20000

@@ -6,11 +6,11 @@ use crate::small_graphs::{ends_of, graph_of, node_of};
 use std::alloc::Global;
 use std::process::Abort;
 use std::test::Fail;
-use strc_check::constants::Constants;
 use strc_graph::graph::Node;
 use strc_graph::instance::Instance;
 use strc_lex::lexer::lex;
 use strc_parse::parse;
+use strc_semantics::constants::Constants;
 use strc_syntax::tree::StreamTree;
 use strc_work::lowering::lower;
 

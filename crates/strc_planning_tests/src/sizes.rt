@@ -8,12 +8,12 @@ use crate::small_graphs::{ends_of, graph_of, node_of, row_of, shown};
 use std::alloc::{AllocError, Global};
 use std::process::Abort;
 use std::test::Fail;
-use strc_check::constants::Constants;
 use strc_graph::graph::{Copied, Fission, Graph, Node};
 use strc_graph::instance::Instance;
 use strc_schedule::error::ScheduleError;
 use strc_schedule::sizing::sizes;
 use strc_schedule::unit::Unit;
+use strc_semantics::constants::Constants;
 use strc_syntax::tree::{FilterTree, ItemType, Member};
 use strc_work::lowering::lower;
 

@@ -2,11 +2,11 @@
 
 use std::alloc::Global;
 use std::test::Fail;
-use strc_check::constants::Constants;
 use strc_code::code::Code;
 use strc_lex::lexer::lex;
 use strc_parse::parse;
 use strc_rate::stateless::stateless;
+use strc_semantics::constants::Constants;
 use strc_syntax::tree::StreamTree;
 use strc_work::lowering::lower;
 

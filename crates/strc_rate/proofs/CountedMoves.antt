@@ -16,14 +16,17 @@ use Rattle.strc_syntax.specs.declared.tree.BinaryOperator.TheVariants as binary
 use Rattle.strc_semantics.specs.declared.fault.Cause.{Cause}
 use Rattle.strc_semantics.specs.declared.fault.Cause.TheVariants.{PeekRange}
 use Rattle.strc_semantics.specs.Arithmetic.{is_true, binary_value}
-use Rattle.strc_semantics.specs.Firing.{Port, Traffic, Store, item_popped, pushed_to, joined}
+use Rattle.strc_semantics.specs.Firing.{Setting, Traffic, Store, item_popped, pushed_to, joined}
 use Rattle.strc_semantics.specs.Firing.{peeked_from, value_of, value_in, assigned_value, place_of}
 use Rattle.strc_semantics.specs.Firing.{cell_in, cell_set, declared_in, element_joined, element_set}
-use Rattle.strc_semantics.specs.Firing.{initial_cells, variables_declared}
+use Rattle.strc_semantics.specs.Firing.{initial_cells, variables_declared, arguments_given}
+use Rattle.strc_semantics.specs.Firing.{values_of}
+use Rattle.strc_semantics.specs.Firing.{fields_in}
 use Rattle.strc_interval.specs.Constant.{constant}
 use Rattle.strc_rate.specs.Counts.{Counts, saturated, no_items, one_push, one_pop, same_counts}
 use Rattle.strc_rate.specs.Counts.{added, sequence, if_equal, require_zero, multiplied, repeated}
 use Rattle.strc_rate.specs.Counts.{branch_counts, Need, need_by, need_of, needed, expr_counts}
+use Rattle.strc_rate.specs.Counts.{arguments_counts}
 use Rattle.strc_rate.specs.Counts.{option_counts, variables_counts}
 use Rattle.strc_rate.proofs.Results.{and_first, and_second, then_ok, both_ok, any_ok}
 use Rattle.strc_rate.proofs.Keeping.{strict_holds}
@@ -311,77 +314,117 @@ pop_counts traffic (Some item) = record {
   saturated_pushes = omega arith;
 }
 
--- what an evaluation moves, and its value where that is known
-pub value_counts : (port : Port) (e : tree.Expr) (store : Store)
-    → CountedOk value_traffic (expr_counts e) store.traffic (value_of port e store)
-value_counts port (tree.Number value) store = stays store.traffic
-value_counts port (tree.Truth value) store = stays store.traffic
-value_counts port (tree.Read name) store = stays store.traffic
-value_counts port (tree.Element name index) store =
-    then_ok (value_of port index store) _
-    (λ at. Counted (expr_counts index) store.traffic at.1.traffic)
-    (λ given. Counted (expr_counts index) store.traffic given.1.traffic)
-    (value_counts port index store)
-    (λ at h. then_ok (place_of at.1 name at.0) _ (λ place. Unit {0})
-    (λ given. Counted (expr_counts index) store.traffic given.1.traffic)
-    (any_ok (place_of at.1 name at.0)) (λ place _. h))
-value_counts port tree.Pop store =
-    then_ok (item_popped (slice_get port.front store.traffic.popped) store.traffic) _
-    (λ taken. Moves store.traffic taken.1 one_pop)
-    (λ given. Moves store.traffic given.1.traffic one_pop)
-    (pop_counts store.traffic (slice_get port.front store.traffic.popped)) (λ taken h. h)
-value_counts port (tree.Peek index) store =
-    then_ok (value_of port index store) _
-    (λ at. Counted (expr_counts index) store.traffic at.1.traffic)
-    (λ given. Counted (expr_counts index) store.traffic given.1.traffic)
-    (value_counts port index store)
-    (λ at h. then_ok (peeked_from port at.0 at.1.traffic) _ (λ item. Unit {0})
-    (λ given. Counted (expr_counts index) store.traffic given.1.traffic)
-    (any_ok (peeked_from port at.0 at.1.traffic)) (λ item _. h))
-value_counts port (tree.Call name arguments) store = tt
-value_counts port (tree.Group inner) store = value_counts port inner store
-value_counts port (tree.Unary operator operand) store =
-    then_ok (value_of port operand store) _
-    (λ right. Counted (expr_counts operand) store.traffic right.1.traffic)
-    (λ given. Counted (expr_counts operand) store.traffic given.1.traffic)
-    (value_counts port operand store) (λ right h. h)
-value_counts port (tree.Step operator name) store = stays store.traffic
-value_counts port (tree.StepElement operator name index) store =
-    then_ok (value_of port index store) _
-    (λ at. Counted (expr_counts index) store.traffic at.1.traffic)
-    (λ given. Counted (expr_counts index) store.traffic given.1.traffic)
-    (value_counts port index store)
-    (λ at h. then_ok (place_of at.1 name at.0) _ (λ place. Unit {0})
-    (λ given. Counted (expr_counts index) store.traffic given.1.traffic)
-    (any_ok (place_of at.1 name at.0)) (λ place _. h))
-value_counts port (tree.Binary operator left right) store =
-    then_ok (value_of port left store) _ (λ first. Counted
-    (expr_counts left) store.traffic first.1.traffic
-    × IfSome (constant left) (λ v. first.0 ≡ v))
-    (λ given. Counted (expr_counts (tree.Binary operator left right)) store.traffic
-    given.1.traffic)
-    (both_ok (value_of port left store) _ _ (value_counts port left store)
-    (constant_sound port left store))
-    (λ first h. advance_counts value_traffic store.traffic first.1.traffic (expr_counts left)
-    (needed (need_of operator left) (expr_counts right))
-    (joined operator first (value_of port right)) h.0
-    (joined_counts operator left first (expr_counts right) (value_of port right) h.1
-    (value_counts port right first.1)))
-value_counts port (tree.Conditional condition chosen other) store =
-    then_ok (value_of port condition store) _
-    (λ test. Counted (expr_counts condition) store.traffic test.1.traffic
-    × IfSome (constant condition) (λ v. test.0 ≡ v))
-    (λ given. Counted (expr_counts (tree.Conditional condition chosen other)) store.traffic
-    given.1.traffic)
-    (both_ok (value_of port condition store) _ _ (value_counts port condition store)
-    (constant_sound port condition store))
-    (λ test h. advance_counts value_traffic store.traffic test.1.traffic (expr_counts condition)
-    (branch_counts (constant condition) (expr_counts chosen) (expr_counts other))
-    (cond (is_true test.0) (value_of port chosen test.1) (value_of port other test.1)) h.0
-    (side_counts value_traffic (constant condition) test.0 (expr_counts chosen)
-    (expr_counts other) test.1.traffic (value_of port chosen test.1)
-    (value_of port other test.1) h.1 (value_counts port chosen test.1)
-    (value_counts port other test.1)))
+-- more turns move nothing
+pub more_turns : (x : Option Counts) (before traffic : Traffic) (n : ℕ) → Counted x before traffic
+    → Counted x before (record traffic { turns = n })
+more_turns None before traffic n h = tt
+more_turns (Some x) before traffic n h = record {
+  pops = h.pops;
+  pushes = h.pushes;
+  popped = h.popped;
+  pushed = h.pushed;
+  saturated_pops =
+      h.saturated_pops;
+  saturated_pushes = h.saturated_pushes;
+}
+
+mutual
+  -- what an evaluation moves, and its value where that is known
+  pub value_counts : (setting : Setting) (e : tree.Expr) (store : Store)
+      → CountedOk value_traffic (expr_counts e) store.traffic (value_of setting e store)
+  value_counts setting (tree.Number value) store = stays store.traffic
+  value_counts setting (tree.Truth value) store = stays store.traffic
+  value_counts setting (tree.Read name) store = stays store.traffic
+  value_counts setting (tree.Element name index) store =
+      then_ok (value_of setting index store) _
+      (λ at. Counted (expr_counts index) store.traffic at.1.traffic)
+      (λ given. Counted (expr_counts index) store.traffic given.1.traffic)
+      (value_counts setting index store)
+      (λ at h. then_ok (place_of at.1 name at.0) _ (λ place. Unit {0})
+      (λ given. Counted (expr_counts index) store.traffic given.1.traffic)
+      (any_ok (place_of at.1 name at.0)) (λ place _. h))
+  value_counts setting tree.Pop store =
+      then_ok (item_popped (slice_get setting.port.front store.traffic.popped) store.traffic) _
+      (λ taken. Moves store.traffic taken.1 one_pop)
+      (λ given. Moves store.traffic given.1.traffic one_pop)
+      (pop_counts store.traffic (slice_get setting.port.front store.traffic.popped)) (λ taken h. h)
+  value_counts setting (tree.Peek index) store =
+      then_ok (value_of setting index store) _
+      (λ at. Counted (expr_counts index) store.traffic at.1.traffic)
+      (λ given. Counted (expr_counts index) store.traffic given.1.traffic)
+      (value_counts setting index store)
+      (λ at h. then_ok (peeked_from setting.port at.0 at.1.traffic) _ (λ item. Unit {0})
+      (λ given. Counted (expr_counts index) store.traffic given.1.traffic)
+      (any_ok (peeked_from setting.port at.0 at.1.traffic)) (λ item _. h))
+  value_counts setting (tree.Call name arguments) store =
+      let x = arguments_counts arguments in
+      then_ok (arguments_given setting arguments store) _
+      (λ given. Counted x store.traffic given.1.traffic)
+      (λ after. Counted x store.traffic after.1.traffic) (arguments_counted setting arguments store)
+      (λ given h.
+      let held = values_of (fields_in setting given.1.variables) in
+      then_ok (setting.call name given.0 held given.1.traffic.turns) _ (λ called. Unit {0})
+      (λ after. Counted x store.traffic after.1.traffic)
+      (any_ok (setting.call name given.0 held given.1.traffic.turns))
+      (λ called any. more_turns x store.traffic given.1.traffic called.turns h))
+  value_counts setting (tree.Group inner) store = value_counts setting inner store
+  value_counts setting (tree.Unary operator operand) store =
+      then_ok (value_of setting operand store) _
+      (λ right. Counted (expr_counts operand) store.traffic right.1.traffic)
+      (λ given. Counted (expr_counts operand) store.traffic given.1.traffic)
+      (value_counts setting operand store) (λ right h. h)
+  value_counts setting (tree.Step operator name) store = stays store.traffic
+  value_counts setting (tree.StepElement operator name index) store =
+      then_ok (value_of setting index store) _
+      (λ at. Counted (expr_counts index) store.traffic at.1.traffic)
+      (λ given. Counted (expr_counts index) store.traffic given.1.traffic)
+      (value_counts setting index store)
+      (λ at h. then_ok (place_of at.1 name at.0) _ (λ place. Unit {0})
+      (λ given. Counted (expr_counts index) store.traffic given.1.traffic)
+      (any_ok (place_of at.1 name at.0)) (λ place _. h))
+  value_counts setting (tree.Binary operator left right) store =
+      then_ok (value_of setting left store) _ (λ first. Counted
+      (expr_counts left) store.traffic first.1.traffic
+      × IfSome (constant left) (λ v. first.0 ≡ v))
+      (λ given. Counted (expr_counts (tree.Binary operator left right)) store.traffic
+      given.1.traffic)
+      (both_ok (value_of setting left store) _ _ (value_counts setting left store)
+      (constant_sound setting left store))
+      (λ first h. advance_counts value_traffic store.traffic first.1.traffic (expr_counts left)
+      (needed (need_of operator left) (expr_counts right))
+      (joined operator first (value_of setting right)) h.0
+      (joined_counts operator left first (expr_counts right) (value_of setting right) h.1
+      (value_counts setting right first.1)))
+  value_counts setting (tree.Conditional condition chosen other) store =
+      then_ok (value_of setting condition store) _
+      (λ test. Counted (expr_counts condition) store.traffic test.1.traffic
+      × IfSome (constant condition) (λ v. test.0 ≡ v))
+      (λ given. Counted (expr_counts (tree.Conditional condition chosen other)) store.traffic
+      given.1.traffic)
+      (both_ok (value_of setting condition store) _ _ (value_counts setting condition store)
+      (constant_sound setting condition store))
+      (λ test h. advance_counts value_traffic store.traffic test.1.traffic (expr_counts condition)
+      (branch_counts (constant condition) (expr_counts chosen) (expr_counts other))
+      (cond (is_true test.0) (value_of setting chosen test.1) (value_of setting other test.1)) h.0
+      (side_counts value_traffic (constant condition) test.0 (expr_counts chosen)
+      (expr_counts other) test.1.traffic (value_of setting chosen test.1)
+      (value_of setting other test.1) h.1 (value_counts setting chosen test.1)
+      (value_counts setting other test.1)))
+
+  arguments_counted : (setting : Setting) (arguments : tree.Arguments) (store : Store)
+      → IfOk (arguments_given setting arguments store)
+      (λ given. Counted (arguments_counts arguments) store.traffic given.1.traffic)
+  arguments_counted setting tree.NoArgument store = stays store.traffic
+  arguments_counted setting (tree.Argument first rest) store =
+      let x = arguments_counts (tree.Argument first rest) in
+      then_ok (value_of setting first store) _
+      (λ given. Counted (expr_counts first) store.traffic given.1.traffic)
+      (λ all. Counted x store.traffic all.1.traffic) (value_counts setting first store)
+      (λ given h. then_ok (arguments_given setting rest given.1) _
+      (λ others. Counted (arguments_counts rest) given.1.traffic others.1.traffic)
+      (λ all. Counted x store.traffic all.1.traffic) (arguments_counted setting rest given.1)
+      (λ others k. counted_both store.traffic given.1.traffic others.1.traffic
+      (expr_counts first) (arguments_counts rest) h k))
 
 -- ---- assignments
 
@@ -389,111 +432,112 @@ abbrev pub store_traffic : Store → Traffic
 store_traffic store = store.traffic
 
 -- a compound assignment reads the variable first, which moves nothing
-assigned_value_counts : (port : Port) (name : List ℕ) (operator : AssignOperator)
+assigned_value_counts : (setting : Setting) (name : List ℕ) (operator : AssignOperator)
     (value : tree.Expr) (store : Store) → CountedOk value_traffic (expr_counts value) store.traffic
-    (value_of port (assigned_value name operator value) store)
-assigned_value_counts port name assign.Set value store = value_counts port value store
-assigned_value_counts port name assign.Add value store =
-    strict_counts binary.Add (value_in store name, store) (expr_counts value) (value_of port value)
-    (value_counts port value store)
-assigned_value_counts port name assign.Subtract value store =
+    (value_of setting (assigned_value name operator value) store)
+assigned_value_counts setting name assign.Set value store = value_counts setting value store
+assigned_value_counts setting name assign.Add value store =
+    strict_counts binary.Add (value_in store name, store) (expr_counts value)
+    (value_of setting value) (value_counts setting value store)
+assigned_value_counts setting name assign.Subtract value store =
     strict_counts binary.Subtract (value_in store name, store) (expr_counts value)
-    (value_of port value) (value_counts port value store)
-assigned_value_counts port name assign.Multiply value store =
+    (value_of setting value) (value_counts setting value store)
+assigned_value_counts setting name assign.Multiply value store =
     strict_counts binary.Multiply (value_in store name, store) (expr_counts value)
-    (value_of port value) (value_counts port value store)
-assigned_value_counts port name assign.Divide value store =
+    (value_of setting value) (value_counts setting value store)
+assigned_value_counts setting name assign.Divide value store =
     strict_counts binary.Divide (value_in store name, store) (expr_counts value)
-    (value_of port value) (value_counts port value store)
-assigned_value_counts port name assign.Remainder value store =
+    (value_of setting value) (value_counts setting value store)
+assigned_value_counts setting name assign.Remainder value store =
     strict_counts binary.Remainder (value_in store name, store) (expr_counts value)
-    (value_of port value) (value_counts port value store)
+    (value_of setting value) (value_counts setting value store)
 
-pub assigned_counts : (port : Port) (name : List ℕ) (operator : AssignOperator) (value : tree.Expr)
-    (store : Store) → CountedOk store_traffic (expr_counts value) store.traffic
-    (result_and_then (value_of port (assigned_value name operator value) store)
+pub assigned_counts : (setting : Setting) (name : List ℕ) (operator : AssignOperator)
+    (value : tree.Expr) (store : Store) → CountedOk store_traffic (expr_counts value) store.traffic
+    (result_and_then (value_of setting (assigned_value name operator value) store)
     (λ given. Ok (cell_set given.1 name 0 given.0)))
-assigned_counts port name operator value store =
-    then_ok (value_of port (assigned_value name operator value) store) _
+assigned_counts setting name operator value store =
+    then_ok (value_of setting (assigned_value name operator value) store) _
     (λ given. Counted (expr_counts value) store.traffic given.1.traffic)
     (λ after. Counted (expr_counts value) store.traffic after.traffic)
-    (assigned_value_counts port name operator value store) (λ given h. h)
+    (assigned_value_counts setting name operator value store) (λ given h. h)
 
-joined_element_counts : (port : Port) (name : List ℕ) (operator : BinaryOperator)
+joined_element_counts : (setting : Setting) (name : List ℕ) (operator : BinaryOperator)
     (value : tree.Expr) (at : ℤ × Store) → CountedOk store_traffic (expr_counts value) at.1.traffic
-    (element_joined port name operator value at)
-joined_element_counts port name operator value at =
+    (element_joined setting name operator value at)
+joined_element_counts setting name operator value at =
     let Q : Store → Type 0 = λ after. Counted (expr_counts value) at.1.traffic after.traffic in
     then_ok (place_of at.1 name at.0) _ (λ place. Unit {0}) Q (any_ok (place_of at.1 name at.0))
     (λ place _.
-    then_ok (value_of port value at.1) _ (λ given. Counted
-    (expr_counts value) at.1.traffic given.1.traffic) Q (value_counts port value at.1)
+    then_ok (value_of setting value at.1) _ (λ given. Counted
+    (expr_counts value) at.1.traffic given.1.traffic) Q (value_counts setting value at.1)
     (λ given h. then_ok (binary_value operator (cell_in at.1 name place) given.0) _
     (λ new. Unit {0}) Q (any_ok (binary_value operator (cell_in at.1 name place) given.0))
     (λ new _. h)))
 
-element_counts : (port : Port) (name : List ℕ) (operator : AssignOperator) (value : tree.Expr)
+element_counts : (setting : Setting) (name : List ℕ) (operator : AssignOperator) (value : tree.Expr)
     (at : ℤ × Store) → CountedOk store_traffic (expr_counts value) at.1.traffic
-    (element_set port name operator value at)
-element_counts port name assign.Set value at =
+    (element_set setting name operator value at)
+element_counts setting name assign.Set value at =
     let Q : Store → Type 0 = λ after. Counted (expr_counts value) at.1.traffic after.traffic in
-    then_ok (value_of port value at.1) _ (λ given. Counted
-    (expr_counts value) at.1.traffic given.1.traffic) Q (value_counts port value at.1)
+    then_ok (value_of setting value at.1) _ (λ given. Counted
+    (expr_counts value) at.1.traffic given.1.traffic) Q (value_counts setting value at.1)
     (λ given h. then_ok (place_of given.1 name at.0) _ (λ place. Unit {0}) Q
     (any_ok (place_of given.1 name at.0)) (λ place _. h))
-element_counts port name assign.Add value at = joined_element_counts port name binary.Add value at
-element_counts port name assign.Subtract value at =
-    joined_element_counts port name binary.Subtract value at
-element_counts port name assign.Multiply value at =
-    joined_element_counts port name binary.Multiply value at
-element_counts port name assign.Divide value at =
-    joined_element_counts port name binary.Divide value at
-element_counts port name assign.Remainder value at =
-    joined_element_counts port name binary.Remainder value at
+element_counts setting name assign.Add value at = joined_element_counts setting name binary.Add
+    value at
+element_counts setting name assign.Subtract value at =
+    joined_element_counts setting name binary.Subtract value at
+element_counts setting name assign.Multiply value at =
+    joined_element_counts setting name binary.Multiply value at
+element_counts setting name assign.Divide value at =
+    joined_element_counts setting name binary.Divide value at
+element_counts setting name assign.Remainder value at =
+    joined_element_counts setting name binary.Remainder value at
 
-pub element_assigned_counts : (port : Port) (name : List ℕ) (index : tree.Expr)
+pub element_assigned_counts : (setting : Setting) (name : List ℕ) (index : tree.Expr)
     (operator : AssignOperator) (value : tree.Expr) (store : Store)
     → CountedOk store_traffic (sequence (expr_counts index) (expr_counts value)) store.traffic
-    (result_and_then (value_of port index store) (element_set port name operator value))
-element_assigned_counts port name index operator value store =
-    then_ok (value_of port index store) (element_set port name operator value)
+    (result_and_then (value_of setting index store) (element_set setting name operator value))
+element_assigned_counts setting name index operator value store =
+    then_ok (value_of setting index store) (element_set setting name operator value)
     (λ at. Counted (expr_counts index) store.traffic at.1.traffic)
     (λ after. Counted (sequence (expr_counts index) (expr_counts value)) store.traffic
     after.traffic)
-    (value_counts port index store)
+    (value_counts setting index store)
     (λ at h. advance_counts store_traffic store.traffic at.1.traffic (expr_counts index)
-    (expr_counts value) (element_set port name operator value at) h
-    (element_counts port name operator value at))
+    (expr_counts value) (element_set setting name operator value at) h
+    (element_counts setting name operator value at))
 
 -- ---- declarations
 
-initial_counts : (port : Port) (cells : ℕ) (initial : Option tree.Expr) (store : Store)
-    → IfOk (initial_cells port cells initial store)
+initial_counts : (setting : Setting) (cells : ℕ) (initial : Option tree.Expr) (store : Store)
+    → IfOk (initial_cells setting cells initial store)
     (λ given. Counted (option_counts initial) store.traffic given.1.traffic)
-initial_counts port cells None store = stays store.traffic
-initial_counts port cells (Some initial) store =
-    then_ok (value_of port initial store) _
+initial_counts setting cells None store = stays store.traffic
+initial_counts setting cells (Some initial) store =
+    then_ok (value_of setting initial store) _
     (λ given. Counted (expr_counts initial) store.traffic given.1.traffic)
     (λ given. Counted (expr_counts initial) store.traffic given.1.traffic)
-    (value_counts port initial store) (λ given h. h)
+    (value_counts setting initial store) (λ given h. h)
 
-pub declared_counts : (port : Port) (cells : ℕ) (variables : List tree.Variable) (store : Store)
-    → CountedOk store_traffic (variables_counts variables) store.traffic
-    (variables_declared port cells variables store)
-declared_counts port cells [] store = stays store.traffic
-declared_counts port cells (first ∷ rest) store =
-    then_ok (initial_cells port cells first.initial store) _
+pub declared_counts : (setting : Setting) (cells : ℕ) (variables : List tree.Variable)
+    (store : Store) → CountedOk store_traffic (variables_counts variables) store.traffic
+    (variables_declared setting cells variables store)
+declared_counts setting cells [] store = stays store.traffic
+declared_counts setting cells (first ∷ rest) store =
+    then_ok (initial_cells setting cells first.initial store) _
     (λ given. Counted (option_counts first.initial) store.traffic given.1.traffic)
     (λ after. Counted (variables_counts (first ∷ rest)) store.traffic after.traffic)
-    (initial_counts port cells first.initial store)
+    (initial_counts setting cells first.initial store)
     (λ given h. advance_counts store_traffic store.traffic given.1.traffic
     (option_counts first.initial) (variables_counts rest)
-    (variables_declared port cells rest (declared_in given.1 first.name given.0)) h
-    (declared_counts port cells rest (declared_in given.1 first.name given.0)))
+    (variables_declared setting cells rest (declared_in given.1 first.name given.0)) h
+    (declared_counts setting cells rest (declared_in given.1 first.name given.0)))
 
-pub push_counts : (port : Port) (item : ℤ) (traffic : Traffic)
-    → IfOk (pushed_to port item traffic) (λ after. Moves traffic after one_push)
-push_counts port item traffic = by_test (nat_lt (length traffic.pushes) port.room)
+pub push_counts : (setting : Setting) (item : ℤ) (traffic : Traffic)
+    → IfOk (pushed_to setting.port item traffic) (λ after. Moves traffic after one_push)
+push_counts setting item traffic = by_test (nat_lt (length traffic.pushes) setting.port.room)
   where
     by_test : (test : Bool) → IfOk (if test then Ok
         (record traffic { pushes = traffic.pushes ++ item ∷ [] }) else Err PeekRange)

@@ -11,15 +11,16 @@ use Rattle.strc_syntax.specs.declared.tree.BinaryOperator.{BinaryOperator}
 use Rattle.strc_syntax.specs.declared.tree.BinaryOperator.TheVariants as binary
 use Rattle.strc_semantics.specs.Arithmetic.{is_true}
 use Rattle.strc_semantics.specs.Constants.{decides, constant_value}
-use Rattle.strc_semantics.specs.Firing.{Port, Store, value_of}
+use Rattle.strc_semantics.specs.Firing.{Setting, Store, value_of}
 use Rattle.strc_interval.specs.Constant.{is_constant, faultless, constant}
 use Rattle.strc_interval.specs.declared.loops.Bound.{Bound}
 use Rattle.strc_interval.specs.Loops.{Locals, First, Loop, stmt_writes, is_order, is_variable}
 use Rattle.strc_interval.specs.Loops.{bound_of, step_move, moved_by, sum_move, assign_move}
 use Rattle.strc_interval.specs.Loops.{value_move, move_of, first_of, loop_of, counted_from}
 use Rattle.strc_interval.specs.Loops.{counted_loop}
-use Rattle.strc_rate.specs.Entries.{peeks_of_expr, peeks_of_option, peeks_of_stmt}
-use Rattle.strc_rate.specs.PeeksSafe.{ExprIsSafe, OptionIsSafe, StmtIsSafe}
+use Rattle.strc_rate.specs.Entries.{peeks_of_expr, peeks_of_arguments, peeks_of_option}
+use Rattle.strc_rate.specs.Entries.{peeks_of_stmt}
+use Rattle.strc_rate.specs.PeeksSafe.{ExprIsSafe, ArgumentsAreSafe, OptionIsSafe, StmtIsSafe}
 use Rattle.strc_rate.proofs.Results.{and_first, and_second, any_ok, match_by}
 
 abbrev pub Peekless : List tree.Expr → Type 0
@@ -210,62 +211,78 @@ empty_second : (first second : List tree.Expr) → Peekless (first ++ second) �
 empty_second [] second e = e
 empty_second (x ∷ rest) second e = absurd (cc)
 
-pub expr_peekless : (port : Port) (entries : List Bool) (e : tree.Expr) (place : ℕ) (store : Store)
-    → Peekless (peeks_of_expr e) → ExprIsSafe port entries place e store
-expr_peekless port entries (tree.Number value) place store none = tt
-expr_peekless port entries (tree.Truth value) place store none = tt
-expr_peekless port entries (tree.Read name) place store none = tt
-expr_peekless port entries (tree.Element name index) place store none =
-    expr_peekless port entries index place store none
-expr_peekless port entries tree.Pop place store none = tt
-expr_peekless port entries (tree.Peek index) place store none =
-    let one = empty_second (peeks_of_expr index) (index ∷ []) none in absurd (cc)
-expr_peekless port entries (tree.Call name arguments) place store none = tt
-expr_peekless port entries (tree.Group inner) place store none =
-    expr_peekless port entries inner place store none
-expr_peekless port entries (tree.Unary operator operand) place store none =
-    expr_peekless port entries operand place store none
-expr_peekless port entries (tree.Step operator name) place store none = tt
-expr_peekless port entries (tree.StepElement operator name index) place store none =
-    expr_peekless port entries index place store none
-expr_peekless port entries (tree.Binary operator left right) place store none = (
-  expr_peekless port entries left place store
-      (empty_first (peeks_of_expr left) (peeks_of_expr right) none),
-  IfOk-weaker (value_of port left store) (λ first. Unit {0}) _
-      (λ first any. match_by (decides operator first.0) (Unit {0})
-      (ExprIsSafe port entries (place + length (peeks_of_expr left)) right first.1) (λ e. tt)
-      (λ e. expr_peekless port entries right (place + length (peeks_of_expr left)) first.1
-      (empty_second (peeks_of_expr left) (peeks_of_expr right) none)))
-      (any_ok (value_of port left store)),
-)
-expr_peekless port entries (tree.Conditional condition chosen other) place store none =
-    let peeks_sides = peeks_of_expr chosen ++ peeks_of_expr other in
-    let sides = empty_second (peeks_of_expr condition) peeks_sides none in
-    let past = place + length (peeks_of_expr condition) in
-    let last = past + length (peeks_of_expr chosen) in (
-      expr_peekless port entries condition place store
-          (empty_first (peeks_of_expr condition) peeks_sides none),
-      IfOk-weaker (value_of port condition store) (λ test. Unit {0}) _
-          (λ test any. match_by (is_true test.0) (ExprIsSafe port entries past chosen test.1)
-          (ExprIsSafe port entries last other test.1)
-          (λ e. expr_peekless port entries chosen past test.1
-          (empty_first (peeks_of_expr chosen) (peeks_of_expr other) sides))
-          (λ e. expr_peekless port entries other last test.1
-          (empty_second (peeks_of_expr chosen) (peeks_of_expr other) sides)))
-          (any_ok (value_of port condition store)),
-    )
+mutual
+  pub expr_peekless : (setting : Setting) (entries : List Bool) (e : tree.Expr) (place : ℕ)
+      (store : Store) → Peekless (peeks_of_expr e) → ExprIsSafe setting entries place e store
+  expr_peekless setting entries (tree.Number value) place store none = tt
+  expr_peekless setting entries (tree.Truth value) place store none = tt
+  expr_peekless setting entries (tree.Read name) place store none = tt
+  expr_peekless setting entries (tree.Element name index) place store none =
+      expr_peekless setting entries index place store none
+  expr_peekless setting entries tree.Pop place store none = tt
+  expr_peekless setting entries (tree.Peek index) place store none =
+      let one = empty_second (peeks_of_expr index) (index ∷ []) none in absurd (cc)
+  expr_peekless setting entries (tree.Call name arguments) place store none =
+      arguments_peekless setting entries arguments place store none
+  expr_peekless setting entries (tree.Group inner) place store none =
+      expr_peekless setting entries inner place store none
+  expr_peekless setting entries (tree.Unary operator operand) place store none =
+      expr_peekless setting entries operand place store none
+  expr_peekless setting entries (tree.Step operator name) place store none = tt
+  expr_peekless setting entries (tree.StepElement operator name index) place store none =
+      expr_peekless setting entries index place store none
+  expr_peekless setting entries (tree.Binary operator left right) place store none = (
+    expr_peekless setting entries left place store
+        (empty_first (peeks_of_expr left) (peeks_of_expr right) none),
+    IfOk-weaker (value_of setting left store) (λ first. Unit {0}) _
+        (λ first any. match_by (decides operator first.0) (Unit {0})
+        (ExprIsSafe setting entries (place + length (peeks_of_expr left)) right first.1) (λ e. tt)
+        (λ e. expr_peekless setting entries right (place + length (peeks_of_expr left)) first.1
+        (empty_second (peeks_of_expr left) (peeks_of_expr right) none)))
+        (any_ok (value_of setting left store)),
+  )
+  expr_peekless setting entries (tree.Conditional condition chosen other) place store none =
+      let peeks_sides = peeks_of_expr chosen ++ peeks_of_expr other in
+      let sides = empty_second (peeks_of_expr condition) peeks_sides none in
+      let past = place + length (peeks_of_expr condition) in
+      let last = past + length (peeks_of_expr chosen) in (
+        expr_peekless setting entries condition place store
+            (empty_first (peeks_of_expr condition) peeks_sides none),
+        IfOk-weaker (value_of setting condition store) (λ test. Unit {0}) _
+            (λ test any. match_by (is_true test.0) (ExprIsSafe setting entries past chosen test.1)
+            (ExprIsSafe setting entries last other test.1)
+            (λ e. expr_peekless setting entries chosen past test.1
+            (empty_first (peeks_of_expr chosen) (peeks_of_expr other) sides))
+            (λ e. expr_peekless setting entries other last test.1
+            (empty_second (peeks_of_expr chosen) (peeks_of_expr other) sides)))
+            (any_ok (value_of setting condition store)),
+      )
 
-pub option_peekless : (port : Port) (entries : List Bool) (value : Option tree.Expr) (place : ℕ)
-    (store : Store) → Peekless (peeks_of_option value)
-    → OptionIsSafe port entries place value store
-option_peekless port entries None place store none = tt
-option_peekless port entries (Some value) place store none =
-    expr_peekless port entries value place store none
+  arguments_peekless : (setting : Setting) (entries : List Bool) (arguments : tree.Arguments)
+      (place : ℕ) (store : Store) → Peekless (peeks_of_arguments arguments)
+      → ArgumentsAreSafe setting entries place arguments store
+  arguments_peekless setting entries tree.NoArgument place store none = tt
+  arguments_peekless setting entries (tree.Argument first rest) place store none = (
+    expr_peekless setting entries first place store
+        (empty_first (peeks_of_expr first) (peeks_of_arguments rest) none),
+    IfOk-weaker (value_of setting first store) (λ given. Unit {0}) _
+        (λ given any. arguments_peekless setting entries rest
+        (place + length (peeks_of_expr first)) given.1
+        (empty_second (peeks_of_expr first) (peeks_of_arguments rest) none))
+        (any_ok (value_of setting first store)),
+  )
+
+pub option_peekless : (setting : Setting) (entries : List Bool) (value : Option tree.Expr)
+    (place : ℕ) (store : Store) → Peekless (peeks_of_option value)
+    → OptionIsSafe setting entries place value store
+option_peekless setting entries None place store none = tt
+option_peekless setting entries (Some value) place store none =
+    expr_peekless setting entries value place store none
 
 -- a step without peeks
 abbrev pub IsFree : tree.Stmt → Type 0
-IsFree s = Peekless (peeks_of_stmt s) × ((port : Port) (entries : List Bool) (place : ℕ)
-    (store : Store) → StmtIsSafe port entries place s store)
+IsFree s = Peekless (peeks_of_stmt s) × ((setting : Setting) (entries : List Bool) (place : ℕ)
+    (store : Store) → StmtIsSafe setting entries place s store)
 
 freed_by : {A : Type 0} (move : Option A) (s : tree.Stmt) (e : tree.Expr)
     → IfSome move (λ m. Peekless (peeks_of_expr e)) → (Peekless (peeks_of_expr e) → IsFree s)
@@ -280,12 +297,20 @@ assigned_free name assigned operator value false = tt
 assigned_free name assigned operator value true =
     freed_by (assign_move name operator value) (tree.Assign assigned operator value) value
     (assign_peekless name operator value)
-    (λ none. (none, λ port entries place store. expr_peekless port entries value place store none))
+    (λ none. (
+      none,
+      λ setting entries place store. expr_peekless setting entries value place store
+          none,
+    ))
 
 step_free : (name : List ℕ) (s : tree.Stmt) → IfSome (move_of name s) (λ move. IsFree s)
 step_free name (tree.Evaluate value) =
     freed_by (value_move name value) (tree.Evaluate value) value (step_peekless name value)
-    (λ none. (none, λ port entries place store. expr_peekless port entries value place store none))
+    (λ none. (
+      none,
+      λ setting entries place store. expr_peekless setting entries value place store
+          none,
+    ))
 step_free name (tree.Assign assigned operator value) =
     assigned_free name assigned operator value (bytes_eq assigned name)
 step_free name tree.Empty = tt

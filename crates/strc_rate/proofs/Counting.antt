@@ -8,7 +8,7 @@ use Rattle.strc_interval.specs.Intervals.{Intervals, intervals_after}
 use Rattle.strc_interval.proofs.IntervalGrowth.{names_after}
 use Rattle.strc_rate.specs.Counts.{Counts, saturated, no_items, sequence, stmt_counts}
 use Rattle.strc_rate.specs.Counts.{stmts_counts}
-use Rattle.strc_rate.specs.Counts.{option_counts, variables_counts}
+use Rattle.strc_rate.specs.Counts.{expr_counts, arguments_counts, option_counts, variables_counts}
 
 saturated_assoc : (a b c : ℕ) → saturated (saturated (a + b) + c)
     ≡ saturated (a + saturated (b + c))
@@ -126,4 +126,26 @@ variables_step so_far here next whole x rest all counted more is left =
     ∙ both_assoc so_far here (variables_counts rest)
     ∙ ap (λ h. sequence so_far (sequence h (variables_counts rest))) counted
     ∙ ap (λ b. sequence so_far (variables_counts b)) (sym is)
+    ∙ left
+
+before_arguments : (arguments : tree.Arguments)
+    → sequence (Some no_items) (arguments_counts arguments) ≡ arguments_counts arguments
+before_arguments tree.NoArgument = refl
+before_arguments (tree.Argument first rest) =
+    nothing_before (expr_counts first) (arguments_counts rest)
+
+pub first_arguments : (none : Counts) (arguments : tree.Arguments) → none ≡ no_items
+    → sequence (Some none) (arguments_counts arguments) ≡ arguments_counts arguments
+first_arguments none arguments e = ap (λ n. sequence (Some n) (arguments_counts arguments)) e
+    ∙ before_arguments arguments
+
+pub arguments_step : (so_far here next whole : Option Counts) (x : tree.Expr)
+    (rest all : tree.Arguments) → here ≡ expr_counts x → next ≡ sequence so_far here
+    → all ≡ tree.Argument x rest → sequence so_far (arguments_counts all) ≡ whole
+    → sequence next (arguments_counts rest) ≡ whole
+arguments_step so_far here next whole x rest all counted more is left =
+    ap (λ n. sequence n (arguments_counts rest)) more
+    ∙ both_assoc so_far here (arguments_counts rest)
+    ∙ ap (λ h. sequence so_far (sequence h (arguments_counts rest))) counted
+    ∙ ap (λ b. sequence so_far (arguments_counts b)) (sym is)
     ∙ left

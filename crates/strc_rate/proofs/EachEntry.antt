@@ -16,12 +16,12 @@ use Rattle.strc_interval.specs.Intervals.{Intervals, intervals_after, names_of, 
 use Rattle.strc_interval.specs.Intervals.{turns_interval}
 use Rattle.strc_rate.specs.Counts.{Need, need_by, need_of, expr_counts, option_counts, stmt_counts}
 use Rattle.strc_rate.specs.Entries.{peeks_of_expr, peeks_of_option, peeks_of_variables}
-use Rattle.strc_rate.specs.Entries.{peeks_of_stmt, peeks_of}
+use Rattle.strc_rate.specs.Entries.{peeks_of_stmt, peeks_of, peeks_of_arguments}
 use Rattle.strc_rate.specs.Peeks.{PeekSite, NoRun, sight_of, PopInterval, advance, in_turns}
 use Rattle.strc_rate.specs.Peeks.{unreached}
 use Rattle.strc_rate.specs.Peeks.{sides_sites, right_sites, some_turns, turns_sites}
 use Rattle.strc_rate.specs.Peeks.{expr_sites, option_sites, variables_sites, stmt_sites}
-use Rattle.strc_rate.specs.Peeks.{stmts_sites, is_closed}
+use Rattle.strc_rate.specs.Peeks.{stmts_sites, arguments_sites, is_closed}
 use Rattle.strc_rate.proofs.CountedParts.{HasFreeParts, counted_free}
 
 -- ---- as many entries as peeks
@@ -96,37 +96,47 @@ turns_entries (Some loop) condition step tested stepped run turned peeks free e 
     ap (λ l. l ++ (peeks_of_stmt step ++ peeks)) free.0 ∙ ap (λ l. l ++ peeks) free.1.0 in
     turned_entries loop.turns (turned loop) peeks (each loop) ∙ ap length (sym none)
 
-pub expr_entries : (e : tree.Expr) (intervals : Intervals) (popped : PopInterval)
-    → AsMany (expr_sites intervals popped e) (peeks_of_expr e)
-expr_entries (tree.Number value) intervals popped = refl
-expr_entries (tree.Truth value) intervals popped = refl
-expr_entries (tree.Read name) intervals popped = refl
-expr_entries (tree.Element name index) intervals popped =
-    expr_entries index intervals popped
-expr_entries tree.Pop intervals popped = refl
-expr_entries (tree.Peek index) intervals popped =
-    two_parts (expr_sites intervals popped index) (_ ∷ []) (peeks_of_expr index)
-    (index ∷ []) (expr_entries index intervals popped) refl
-expr_entries (tree.Call name arguments) intervals popped = refl
-expr_entries (tree.Group inner) intervals popped =
-    expr_entries inner intervals popped
-expr_entries (tree.Unary operator operand) intervals popped =
-    expr_entries operand intervals popped
-expr_entries (tree.Step operator name) intervals popped = refl
-expr_entries (tree.StepElement operator name index) intervals popped =
-    expr_entries index intervals popped
-expr_entries (tree.Binary operator left right) intervals popped =
-    two_parts (expr_sites intervals popped left) _ (peeks_of_expr left)
-    (peeks_of_expr right) (expr_entries left intervals popped)
-    (right_entries (need_of operator left) _ (peeks_of_expr right)
-    (expr_entries right intervals (advance popped (expr_counts left))))
-expr_entries (tree.Conditional condition chosen other) intervals popped =
-    let later = advance popped (expr_counts condition) in
-    two_parts (expr_sites intervals popped condition) _ (peeks_of_expr condition)
-    (peeks_of_expr chosen ++ peeks_of_expr other)
-    (expr_entries condition intervals popped)
-    (sides_entries (constant condition) _ _ (peeks_of_expr chosen) (peeks_of_expr other)
-    (expr_entries chosen intervals later) (expr_entries other intervals later))
+mutual
+  pub expr_entries : (e : tree.Expr) (intervals : Intervals) (popped : PopInterval)
+      → AsMany (expr_sites intervals popped e) (peeks_of_expr e)
+  expr_entries (tree.Number value) intervals popped = refl
+  expr_entries (tree.Truth value) intervals popped = refl
+  expr_entries (tree.Read name) intervals popped = refl
+  expr_entries (tree.Element name index) intervals popped =
+      expr_entries index intervals popped
+  expr_entries tree.Pop intervals popped = refl
+  expr_entries (tree.Peek index) intervals popped =
+      two_parts (expr_sites intervals popped index) (_ ∷ []) (peeks_of_expr index)
+      (index ∷ []) (expr_entries index intervals popped) refl
+  expr_entries (tree.Call name arguments) intervals popped =
+      arguments_entries arguments intervals popped
+  expr_entries (tree.Group inner) intervals popped =
+      expr_entries inner intervals popped
+  expr_entries (tree.Unary operator operand) intervals popped =
+      expr_entries operand intervals popped
+  expr_entries (tree.Step operator name) intervals popped = refl
+  expr_entries (tree.StepElement operator name index) intervals popped =
+      expr_entries index intervals popped
+  expr_entries (tree.Binary operator left right) intervals popped =
+      two_parts (expr_sites intervals popped left) _ (peeks_of_expr left)
+      (peeks_of_expr right) (expr_entries left intervals popped)
+      (right_entries (need_of operator left) _ (peeks_of_expr right)
+      (expr_entries right intervals (advance popped (expr_counts left))))
+  expr_entries (tree.Conditional condition chosen other) intervals popped =
+      let later = advance popped (expr_counts condition) in
+      two_parts (expr_sites intervals popped condition) _ (peeks_of_expr condition)
+      (peeks_of_expr chosen ++ peeks_of_expr other)
+      (expr_entries condition intervals popped)
+      (sides_entries (constant condition) _ _ (peeks_of_expr chosen) (peeks_of_expr other)
+      (expr_entries chosen intervals later) (expr_entries other intervals later))
+
+  arguments_entries : (arguments : tree.Arguments) (intervals : Intervals) (popped : PopInterval)
+      → AsMany (arguments_sites intervals popped arguments) (peeks_of_arguments arguments)
+  arguments_entries tree.NoArgument intervals popped = refl
+  arguments_entries (tree.Argument first rest) intervals popped =
+      two_parts (expr_sites intervals popped first) _ (peeks_of_expr first)
+      (peeks_of_arguments rest) (expr_entries first intervals popped)
+      (arguments_entries rest intervals (advance popped (expr_counts first)))
 
 pub option_entries : (value : Option tree.Expr) (intervals : Intervals)
     (popped : PopInterval)

@@ -9,8 +9,8 @@ use Rattle.strc_semantics.specs.declared.body.Body.{Body}
 use Rattle.strc_semantics.specs.Scoping.{Scope}
 use Rattle.strc_semantics.specs.Filters.{sized_fields, body_block, body_rates, push_rate, pop_rate}
 use Rattle.strc_semantics.specs.Filters.{peek_rate, window_size}
-use Rattle.strc_semantics.specs.Closed.{AreClosed}
-use Rattle.strc_semantics.specs.Firing.{Port, Store, no_traffic, port_of, store_at}
+use Rattle.strc_rate.proofs.Unreturned.{ArePlain}
+use Rattle.strc_semantics.specs.Firing.{Setting, Store, no_traffic, setting_of, store_at}
 use Rattle.strc_rate.specs.Counts.{stmts_counts}
 use Rattle.strc_rate.specs.declared.counts.TheConstants.{COUNT_LIMIT}
 use Rattle.strc_rate.specs.Entries.{peeks_of}
@@ -20,13 +20,15 @@ use Rattle.strc_rate.proofs.PeeksPromised as text
 use Rattle.strc_rate.proofs.Results.{and_first, and_second}
 use Rattle.strc_rate.specs.Rates.{BodyRates, within_limit, are_within_limit, checked}
 use Rattle.strc_rate.specs.Safe.{rates_of, ClosedPeeksNeverFault, EachPeekHasAnEntry}
-use Rattle.strc_rate.proofs.KeptRates.{limited, accepted_by, OfBodies, of_filters, bodies_closed}
+use Rattle.strc_rate.proofs.KeptRates.{fields_there, limited, accepted_by, OfBodies, of_filters}
+use Rattle.strc_rate.proofs.KeptRates.{bodies_plain}
 
 -- each run of a block from no traffic is safe, before a window that is whole
 abbrev RunsSafe : List tree.Rate → tree.Stmts → BodyRates → Type 0
 RunsSafe rates block accepted =
-    (port : Port) (store : Store) → window_size rates ≤ length port.ahead
-    → store.traffic ≡ no_traffic → StmtsAreSafe port accepted.closed 0 block store
+    (setting : Setting) (store : Store) → window_size rates ≤ length setting.port.ahead
+    → setting.fields ≤ length store.variables → store.traffic ≡ no_traffic
+    → StmtsAreSafe setting accepted.closed 0 block store
 
 small_window : (rates : List tree.Rate) → are_within_limit rates ≡ true
     → window_size rates < COUNT_LIMIT
@@ -36,13 +38,13 @@ small_window rates limits =
     let peeks = limited (peek_rate rates) (and_second (within_limit (pop_rate rates)) _ rest) in
     omega arith
 
-body_safe : (names : Scope) → OfBodies (AreClosed names) RunsSafe
+body_safe : (names : Scope) → OfBodies (ArePlain names) RunsSafe
 body_safe names lacks rates block closed =
     accepted_by (are_within_limit rates) lacks rates (stmts_counts [] block)
     (body_sights (window_size rates) block) (RunsSafe rates block)
-    (λ c limits counts pushes pops port store ahead none.
-    text.closed_peeks (window_size rates) port block names store (small_window rates limits) ahead
-    closed (ap is_some counts) none)
+    (λ c limits counts pushes pops setting store ahead room none.
+    text.closed_peeks (window_size rates) setting block names store
+    (small_window rates limits) ahead closed.0 closed.1 (ap is_some counts) room none)
 
 pub closed_peeks : ClosedPeeksNeverFault
 closed_peeks filter closed =
@@ -53,8 +55,9 @@ closed_peeks filter closed =
     (λ rates safe body fields window le.
     let size = window_size (body_rates body filter.members) in
     let ahead : length (take size window) ≡ size = length-take-le size window le in
-    safe body (port_of filter body window) (store_at filter fields) (omega arith) refl)
-    (of_filters (AreClosed names) RunsSafe (body_safe names) filter (bodies_closed filter closed))
+    safe body (setting_of filter body window) (store_at filter fields) (omega arith)
+    (fields_there filter fields) refl)
+    (of_filters (ArePlain names) RunsSafe (body_safe names) filter (bodies_plain filter closed))
 
 -- as many entries as peeks
 abbrev KeepsStep : List tree.Rate → tree.Stmts → BodyRates → Type 0

@@ -18,7 +18,7 @@ use Rattle.strc_syntax.specs.declared.tree.BinaryOperator.{BinaryOperator}
 use Rattle.strc_syntax.specs.declared.tree.BinaryOperator.TheVariants as binary
 use Rattle.strc_semantics.specs.declared.fault.Cause.{Cause}
 use Rattle.strc_semantics.specs.Arithmetic.{wrapped, unary_value, binary_value}
-use Rattle.strc_semantics.specs.Firing.{Port, Store, value_in, value_of, joined}
+use Rattle.strc_semantics.specs.Firing.{Setting, Store, value_in, value_of, joined}
 use Rattle.strc_interval.specs.Constant.{constant}
 use Rattle.strc_interval.specs.Loops.{within_32_bits}
 use Rattle.strc_interval.specs.declared.interval.Interval.{Interval}
@@ -126,11 +126,11 @@ product_within first second x y h k =
 -- ---- values
 
 -- the value of an expression is within an interval, and nothing changes
-pub record IsWithin (port : Port) (e : tree.Expr) (store : Store) (interval : Interval) : Type 0
-  where
-    pub value : ℤ
-    pub done : value_of port e store ≡ Ok (value, store)
-    pub within : Within interval value
+pub record IsWithin (setting : Setting) (e : tree.Expr) (store : Store)
+    (interval : Interval) : Type 0 where
+  pub value : ℤ
+  pub done : value_of setting e store ≡ Ok (value, store)
+  pub within : Within interval value
 
 -- each known interval holds of the value of its variable
 abbrev pub Holds : Intervals → Store → Type 0
@@ -138,8 +138,8 @@ Holds intervals store = (name : List ℕ) → IfSome (interval_named intervals n
     (λ interval. Within interval (value_in store name))
 
 abbrev pub IsSound : Intervals → tree.Expr → Interval → Type 0
-IsSound intervals e interval = (port : Port) (store : Store) → Holds intervals store
-    → IsWithin port e store interval
+IsSound intervals e interval = (setting : Setting) (store : Store) → Holds intervals store
+    → IsWithin setting e store interval
 
 known_by : (interval : Interval) (P : Interval → Type 0) (a b : Bool)
     → within_32_bits interval.low ≡ a → within_32_bits interval.high ≡ b
@@ -165,8 +165,8 @@ unwrapped low high z f g above below =
 
 singleton_sound : (intervals : Intervals) (e : tree.Expr) (v : ℤ) → constant e ≡ Some v
     → IsSound intervals e (singleton v)
-singleton_sound intervals e v is port store holds =
-    record { value = v; done = constant_done port e store v is; within = (≤ℤ_refl v, ≤ℤ_refl v) }
+singleton_sound intervals e v is setting store holds =
+    record { value = v; done = constant_done setting e store v is; within = (≤ℤ_refl v, ≤ℤ_refl v) }
 
 or_sound : (intervals : Intervals) (e : tree.Expr) (given : Option ℤ) (other : Option Interval)
     → constant e ≡ given → IfSome other (IsSound intervals e)
@@ -179,7 +179,7 @@ read_sound : (intervals : Intervals) (name : List ℕ) (interval : Option Interv
     → IfSome interval (IsSound intervals (tree.Read name))
 read_sound intervals name None is = tt
 read_sound intervals name (Some interval) is =
-    λ port store holds.
+    λ setting store holds.
     record {
       value = value_in store name;
       done = refl;
@@ -193,8 +193,8 @@ negated_sound : (intervals : Intervals) (e : tree.Expr) (interval : Interval)
 negated_sound intervals e interval reported =
     known_sound (record { low = neg_ℤ interval.high; high = neg_ℤ interval.low })
     (IsSound intervals (tree.Unary unary.Negate e))
-    (λ f g port store holds.
-    let h = reported port store holds in
+    (λ f g setting store holds.
+    let h = reported setting store holds in
     let low = h.within.0 in
     let high = h.within.1 in
     let above : neg_ℤ interval.high ≤ℤ neg_ℤ h.value = omega (arith, ints) in
@@ -230,14 +230,14 @@ both_sound : (intervals : Intervals) (operator : BinaryOperator) (left right : t
     → ((v w : ℤ) → Within first v → Within second w
     → (z : ℤ) × Gives operator v w z × Within interval z)
     → IsSound intervals (tree.Binary operator left right) interval
-both_sound intervals operator left right first second interval h k gives port store holds =
-    let v = h port store holds in
-    let w = k port store holds in
+both_sound intervals operator left right first second interval h k gives setting store holds =
+    let v = h setting store holds in
+    let w = k setting store holds in
     let z = gives v.value w.value v.within w.within in
     record {
       value = z.0;
-      done = ap (λ r. result_and_then r (λ first. joined operator first (value_of port right)))
-          v.done ∙ z.1 store (value_of port right) w.done;
+      done = ap (λ r. result_and_then r (λ first. joined operator first (value_of setting right)))
+          v.done ∙ z.1 store (value_of setting right) w.done;
       within = z.2;
     }
 
@@ -373,7 +373,7 @@ interval_sound intervals (tree.Group inner) =
     grouped : (interval : Option Interval) → IfSome interval (IsSound intervals inner)
         → IfSome interval (IsSound intervals (tree.Group inner))
     grouped None h = tt
-    grouped (Some interval) h = λ port store holds. let k = h port store holds in
+    grouped (Some interval) h = λ setting store holds. let k = h setting store holds in
         record { value = k.value; done = k.done; within = k.within }
 interval_sound intervals (tree.Unary operator operand) =
     or_sound intervals (tree.Unary operator operand) (constant (tree.Unary operator operand))
@@ -388,7 +388,7 @@ interval_sound intervals (tree.Binary operator left right) =
     (binary_sound intervals operator left right (interval_of intervals left)
     (interval_of intervals right) (interval_sound intervals left) (interval_sound intervals right))
 interval_sound intervals (tree.Number value) =
-    λ port store holds. record {
+    λ setting store holds. record {
       value = value;
       done = refl;
       within =

@@ -1,10 +1,12 @@
 -- What a run leaves as it was: the outer variables, but for those that its text writes.
 use Rattle.std.proofs.Common.{◌≡◌, refl, sym, ◌∙◌, ap, ℕ, zero, suc, ◌-◌, ◌≤◌, ℤ, Bool, true, false}
-use Rattle.std.proofs.Common.{cond, ◌||◌, List, [], ◌∷◌, length, take, drop, set, Option, Some}
+use Rattle.std.proofs.Common.{cond, ◌||◌, List, [], ◌∷◌, ◌++◌, length, take, drop, set, Option}
+use Rattle.std.proofs.Common.{Some}
 use Rattle.std.proofs.Common.{None, Result, Ok, arith}
 use Rattle.std.specs.Prelude.{bytes_eq}
 use Rattle.std.specs.Result.{IfOk}
 use Rattle.std.proofs.lemmas.List.{length-map}
+use Rattle.std.proofs.lemmas.Result.{IfOk-weaker}
 use Rattle.std.proofs.lemmas.Slice.Eq.{bytes_eq-Decides}
 use Rattle.strc_base.specs.Results.{result_and_then}
 use Rattle.strc_syntax.specs.Tree as tree
@@ -15,12 +17,14 @@ use Rattle.strc_syntax.specs.declared.tree.BinaryOperator.TheVariants as binary
 use Rattle.strc_semantics.specs.declared.fault.Cause.{Cause}
 use Rattle.strc_semantics.specs.Arithmetic.{is_true, binary_value}
 use Rattle.strc_semantics.specs.Scoping.{Scope, is_declared}
-use Rattle.strc_semantics.specs.Firing.{Port, Traffic, Store, Variables, cells_named, with_cell}
+use Rattle.strc_semantics.specs.Firing.{Setting, Traffic, Store, Variables, cells_named, with_cell}
 use Rattle.strc_semantics.specs.Firing.{popped_from, peeked_from, joined, value_of, assigned_value}
 use Rattle.strc_semantics.specs.Firing.{place_of, cell_in, cell_set, element_joined, element_set}
-use Rattle.strc_semantics.specs.Firing.{condition_value}
+use Rattle.strc_semantics.specs.Firing.{condition_value, arguments_given, values_of, fields_in}
+use Rattle.strc_semantics.specs.Firing.{after_call, Called, revalued}
+use Rattle.strc_semantics.proofs.Calls.{scope_of-after_call, length-after_call}
 use Rattle.strc_rate.proofs.Scopes.{scope_of, scope_of-with_cell}
-use Rattle.strc_interval.specs.Loops.{expr_writes, option_writes}
+use Rattle.strc_interval.specs.Loops.{expr_writes, exprs_write, option_writes}
 use Rattle.strc_rate.proofs.Results.{or_first, or_second, then_ok, any_ok, below, above, below_all}
 
 -- ---- the cells of a name after a write
@@ -103,11 +107,16 @@ below_cells (first ∷ rest) (suc k) stepped place value name unwritten =
 abbrev pub Covers : (wide narrow : List ℕ → Bool) → Type 0
 Covers wide narrow = (name : List ℕ) → wide name ≡ false → narrow name ≡ false
 
--- what holds of a store holds after more traffic, and after a write of these names
-pub record Holding (P : Store → Type 0) (writes : List ℕ → Bool) : Type 0 where
-  pub moved : (store : Store) (traffic : Traffic) → P store → P (record store { traffic = traffic })
-  pub written : (store : Store) (name : List ℕ) (place : ℕ) (value : ℤ)
-      → Covers writes (bytes_eq name) → P store → P (cell_set store name place value)
+-- what holds of a store holds after more traffic, after a write of these names, and after a call
+pub record Holding (setting : Setting) (P : Store → Type 0) (writes : List ℕ → Bool) : Type 0
+  where
+    pub moved : (store : Store) (traffic : Traffic) → P store
+        → P (record store { traffic = traffic })
+    pub written : (store : Store) (name : List ℕ) (place : ℕ) (value : ℤ)
+        → Covers writes (bytes_eq name) → P store → P (cell_set store name place value)
+    pub called : (store : Store) (name : List ℕ) (values : List ℤ) → P store
+        → IfOk (setting.call name values (values_of (fields_in setting store.variables))
+        store.traffic.turns) (λ called. P (after_call setting store called))
 
 -- a value, and a store of which it holds
 abbrev pub Given : (Store → Type 0) → Result (ℤ × Store) Cause → Type 0
@@ -154,71 +163,93 @@ joined_holds P binary.Multiply first right h k = strict_holds P binary.Multiply 
 joined_holds P binary.Divide first right h k = strict_holds P binary.Divide first right k
 joined_holds P binary.Remainder first right h k = strict_holds P binary.Remainder first right k
 
--- what holds of the store holds after an expression that writes no other names
-pub value_holds : (P : Store → Type 0) (writes : List ℕ → Bool) → Holding P writes
-    → (port : Port) (e : tree.Expr) (store : Store) → Covers writes (λ name. expr_writes name e)
-    → P store → Given P (value_of port e store)
-value_holds P writes holding port (tree.Number value) store covers h = h
-value_holds P writes holding port (tree.Truth value) store covers h = h
-value_holds P writes holding port (tree.Read name) store covers h = h
-value_holds P writes holding port (tree.Element name index) store covers h =
-    then_ok (value_of port index store) _ (λ given. P given.1) (λ given. P given.1)
-    (value_holds P writes holding port index store covers h)
-    (λ at k. then_ok (place_of at.1 name at.0) _ (λ place. Unit {0}) (λ given. P given.1)
-    (any_ok (place_of at.1 name at.0)) (λ place _. k))
-value_holds P writes holding port tree.Pop store covers h =
-    then_ok (popped_from port store.traffic) _ (λ taken. Unit {0}) (λ given. P given.1)
-    (any_ok (popped_from port store.traffic))
-    (λ taken _. holding.moved store taken.1 h)
-value_holds P writes holding port (tree.Peek index) store covers h =
-    then_ok (value_of port index store) _ (λ given. P given.1) (λ given. P given.1)
-    (value_holds P writes holding port index store covers h)
-    (λ place k. then_ok (peeked_from port place.0 place.1.traffic) _ (λ item. Unit {0})
-    (λ given. P given.1) (any_ok (peeked_from port place.0 place.1.traffic)) (λ item _. k))
-value_holds P writes holding port (tree.Call name arguments) store covers h = tt
-value_holds P writes holding port (tree.Group inner) store covers h =
-    value_holds P writes holding port inner store covers h
-value_holds P writes holding port (tree.Unary operator operand) store covers h =
-    then_ok (value_of port operand store) _ (λ given. P given.1) (λ given. P given.1)
-    (value_holds P writes holding port operand store covers h) (λ given k. k)
-value_holds P writes holding port (tree.Step operator name) store covers h =
-    holding.written store name 0 _ covers h
-value_holds P writes holding port (tree.StepElement operator name index) store covers h =
-    then_ok (value_of port index store) _ (λ given. P given.1) (λ given. P given.1)
-    (value_holds P writes holding port index store
-    (λ n e. or_second (bytes_eq name n) _ (covers n e)) h)
-    (λ at k.
-    then_ok (place_of at.1 name at.0) _ (λ place. Unit {0}) (λ given. P given.1)
-    (any_ok (place_of at.1 name at.0))
-    (λ place _. holding.written at.1 name place _
-    (λ n e. or_first (bytes_eq name n) _ (covers n e)) k))
-value_holds P writes holding port (tree.Binary operator left right) store covers h =
-    then_ok (value_of port left store) _ (λ given. P given.1) (λ given. P given.1)
-    (value_holds P writes holding port left store
-    (λ n e. or_first (expr_writes n left) _ (covers n e)) h)
-    (λ first k. joined_holds P operator first (value_of port right) k
-    (value_holds P writes holding port right first.1
-    (λ n e. or_second (expr_writes n left) _ (covers n e)) k))
-value_holds P writes holding port (tree.Conditional condition chosen other) store covers h =
-    then_ok (value_of port condition store) _ (λ given. P given.1) (λ given. P given.1)
-    (value_holds P writes holding port condition store
-    (λ n e. or_first (expr_writes n condition) _ (covers n e)) h)
-    (λ test k. one_holds P (is_true test.0) (value_of port chosen test.1)
-    (value_of port other test.1)
-    (value_holds P writes holding port chosen test.1
-    (λ n e. or_first (expr_writes n chosen) _
-    (or_second (expr_writes n condition) _ (covers n e))) k)
-    (value_holds P writes holding port other test.1
-    (λ n e. or_second (expr_writes n chosen) _
-    (or_second (expr_writes n condition) _ (covers n e))) k))
+mutual
+  -- what holds of the store holds after an expression that writes no other names
+  pub value_holds : (setting : Setting) (P : Store → Type 0) (writes : List ℕ → Bool)
+      → Holding setting P writes → (e : tree.Expr) (store : Store)
+      → Covers writes (λ name. expr_writes name e) → P store → Given P (value_of setting e store)
+  value_holds setting P writes holding (tree.Number value) store covers h = h
+  value_holds setting P writes holding (tree.Truth value) store covers h = h
+  value_holds setting P writes holding (tree.Read name) store covers h = h
+  value_holds setting P writes holding (tree.Element name index) store covers h =
+      then_ok (value_of setting index store) _ (λ given. P given.1) (λ given. P given.1)
+      (value_holds setting P writes holding index store covers h)
+      (λ at k. then_ok (place_of at.1 name at.0) _ (λ place. Unit {0}) (λ given. P given.1)
+      (any_ok (place_of at.1 name at.0)) (λ place _. k))
+  value_holds setting P writes holding tree.Pop store covers h =
+      then_ok (popped_from setting.port store.traffic) _ (λ taken. Unit {0}) (λ given. P given.1)
+      (any_ok (popped_from setting.port store.traffic))
+      (λ taken _. holding.moved store taken.1 h)
+  value_holds setting P writes holding (tree.Peek index) store covers h =
+      then_ok (value_of setting index store) _ (λ given. P given.1) (λ given. P given.1)
+      (value_holds setting P writes holding index store covers h)
+      (λ place k. then_ok (peeked_from setting.port place.0 place.1.traffic) _ (λ item. Unit {0})
+      (λ given. P given.1) (any_ok (peeked_from setting.port place.0 place.1.traffic))
+      (λ item _. k))
+  value_holds setting P writes holding (tree.Call name arguments) store covers h =
+      then_ok (arguments_given setting arguments store) _ (λ given. P given.1) (λ given. P given.1)
+      (arguments_hold setting P writes holding arguments store covers h)
+      (λ given k. then_ok (setting.call name given.0
+      (values_of (fields_in setting given.1.variables)) given.1.traffic.turns) _
+      (λ called. P (after_call setting given.1 called)) (λ after. P after.1)
+      (holding.called given.1 name given.0 k) (λ called l. l))
+  value_holds setting P writes holding (tree.Group inner) store covers h =
+      value_holds setting P writes holding inner store covers h
+  value_holds setting P writes holding (tree.Unary operator operand) store covers h =
+      then_ok (value_of setting operand store) _ (λ given. P given.1) (λ given. P given.1)
+      (value_holds setting P writes holding operand store covers h) (λ given k. k)
+  value_holds setting P writes holding (tree.Step operator name) store covers h =
+      holding.written store name 0 _ covers h
+  value_holds setting P writes holding (tree.StepElement operator name index) store covers h =
+      then_ok (value_of setting index store) _ (λ given. P given.1) (λ given. P given.1)
+      (value_holds setting P writes holding index store
+      (λ n e. or_second (bytes_eq name n) _ (covers n e)) h)
+      (λ at k.
+      then_ok (place_of at.1 name at.0) _ (λ place. Unit {0}) (λ given. P given.1)
+      (any_ok (place_of at.1 name at.0))
+      (λ place _. holding.written at.1 name place _
+      (λ n e. or_first (bytes_eq name n) _ (covers n e)) k))
+  value_holds setting P writes holding (tree.Binary operator left right) store covers h =
+      then_ok (value_of setting left store) _ (λ given. P given.1) (λ given. P given.1)
+      (value_holds setting P writes holding left store
+      (λ n e. or_first (expr_writes n left) _ (covers n e)) h)
+      (λ first k. joined_holds P operator first (value_of setting right) k
+      (value_holds setting P writes holding right first.1
+      (λ n e. or_second (expr_writes n left) _ (covers n e)) k))
+  value_holds setting P writes holding (tree.Conditional condition chosen other) store covers h =
+      then_ok (value_of setting condition store) _ (λ given. P given.1) (λ given. P given.1)
+      (value_holds setting P writes holding condition store
+      (λ n e. or_first (expr_writes n condition) _ (covers n e)) h)
+      (λ test k. one_holds P (is_true test.0) (value_of setting chosen test.1)
+      (value_of setting other test.1)
+      (value_holds setting P writes holding chosen test.1
+      (λ n e. or_first (expr_writes n chosen) _
+      (or_second (expr_writes n condition) _ (covers n e))) k)
+      (value_holds setting P writes holding other test.1
+      (λ n e. or_second (expr_writes n chosen) _
+      (or_second (expr_writes n condition) _ (covers n e))) k))
 
-pub condition_holds : (P : Store → Type 0) (writes : List ℕ → Bool) → Holding P writes
-    → (port : Port) (condition : Option tree.Expr) (store : Store)
+  arguments_hold : (setting : Setting) (P : Store → Type 0) (writes : List ℕ → Bool)
+      → Holding setting P writes → (arguments : tree.Arguments) (store : Store)
+      → Covers writes (λ name. exprs_write name arguments) → P store
+      → IfOk (arguments_given setting arguments store) (λ given. P given.1)
+  arguments_hold setting P writes holding tree.NoArgument store covers h = h
+  arguments_hold setting P writes holding (tree.Argument first rest) store covers h =
+      then_ok (value_of setting first store) _ (λ given. P given.1) (λ all. P all.1)
+      (value_holds setting P writes holding first store
+      (λ n e. or_first (expr_writes n first) _ (covers n e)) h)
+      (λ given k. then_ok (arguments_given setting rest given.1) _ (λ others. P others.1)
+      (λ all. P all.1)
+      (arguments_hold setting P writes holding rest given.1
+      (λ n e. or_second (expr_writes n first) _ (covers n e)) k) (λ others l. l))
+
+pub condition_holds : (setting : Setting) (P : Store → Type 0) (writes : List ℕ → Bool)
+    → Holding setting P writes → (condition : Option tree.Expr) (store : Store)
     → Covers writes (λ name. option_writes name condition) → P store
-    → Given P (condition_value port condition store)
-condition_holds P writes holding port None store covers h = h
-condition_holds P writes holding port (Some condition) store covers h =
-    value_holds P writes holding port condition store covers h
+    → Given P (condition_value setting condition store)
+condition_holds setting P writes holding None store covers h = h
+condition_holds setting P writes holding (Some condition) store covers h =
+    value_holds setting P writes holding condition store covers h
 
 -- ---- assignments
 
@@ -231,75 +262,82 @@ assigned_writes name assigned assign.Multiply value = refl
 assigned_writes name assigned assign.Divide value = refl
 assigned_writes name assigned assign.Remainder value = refl
 
-pub assigned_holds : (P : Store → Type 0) (writes : List ℕ → Bool) → Holding P writes
-    → (port : Port) (name : List ℕ) (operator : AssignOperator) (value : tree.Expr) (store : Store)
-    → Covers writes (λ n. bytes_eq name n || expr_writes n value) → P store
-    → IfOk (result_and_then (value_of port (assigned_value name operator value) store)
+pub assigned_holds : (setting : Setting) (P : Store → Type 0) (writes : List ℕ → Bool)
+    → Holding setting P writes → (name : List ℕ) (operator : AssignOperator) (value : tree.Expr)
+    (store : Store) → Covers writes (λ n. bytes_eq name n || expr_writes n value) → P store
+    → IfOk (result_and_then (value_of setting (assigned_value name operator value) store)
     (λ given. Ok (cell_set given.1 name 0 given.0))) P
-assigned_holds P writes holding port name operator value store covers h =
-    then_ok (value_of port (assigned_value name operator value) store) _ (λ given. P given.1) P
-    (value_holds P writes holding port (assigned_value name operator value) store
+assigned_holds setting P writes holding name operator value store covers h =
+    then_ok (value_of setting (assigned_value name operator value) store) _ (λ given. P given.1) P
+    (value_holds setting P writes holding (assigned_value name operator value) store
     (λ n e. assigned_writes n name operator value ∙ or_second (bytes_eq name n) _ (covers n e)) h)
     (λ given k. holding.written given.1 name 0 given.0
     (λ n e. or_first (bytes_eq name n) _ (covers n e)) k)
 
-joined_element_holds : (P : Store → Type 0) (writes : List ℕ → Bool) → Holding P writes
-    → (port : Port) (name : List ℕ) (operator : BinaryOperator) (value : tree.Expr) (at : ℤ × Store)
+joined_element_holds : (setting : Setting) (P : Store → Type 0) (writes : List ℕ → Bool)
+    → Holding setting P writes → (name : List ℕ) (operator : BinaryOperator) (value : tree.Expr)
+    (at : ℤ × Store)
     → Covers writes (bytes_eq name) → Covers writes (λ n. expr_writes n value) → P at.1
-    → IfOk (element_joined port name operator value at) P
-joined_element_holds P writes holding port name operator value at writes_it covers h =
+    → IfOk (element_joined setting name operator value at) P
+joined_element_holds setting P writes holding name operator value at writes_it covers h =
     then_ok (place_of at.1 name at.0) _ (λ place. Unit {0}) P (any_ok (place_of at.1 name at.0))
     (λ place _.
-    then_ok (value_of port value at.1) _ (λ given. P given.1) P
-    (value_holds P writes holding port value at.1 covers h)
+    then_ok (value_of setting value at.1) _ (λ given. P given.1) P
+    (value_holds setting P writes holding value at.1 covers h)
     (λ given k.
     then_ok (binary_value operator (cell_in at.1 name place) given.0) _ (λ new. Unit {0}) P
     (any_ok (binary_value operator (cell_in at.1 name place) given.0))
     (λ new _. holding.written given.1 name place new writes_it k)))
 
-element_holds : (P : Store → Type 0) (writes : List ℕ → Bool) → Holding P writes
-    → (port : Port) (name : List ℕ) (operator : AssignOperator) (value : tree.Expr) (at : ℤ × Store)
+element_holds : (setting : Setting) (P : Store → Type 0) (writes : List ℕ → Bool)
+    → Holding setting P writes → (name : List ℕ) (operator : AssignOperator) (value : tree.Expr)
+    (at : ℤ × Store)
     → Covers writes (bytes_eq name) → Covers writes (λ n. expr_writes n value) → P at.1
-    → IfOk (element_set port name operator value at) P
-element_holds P writes holding port name assign.Set value at writes_it covers h =
-    then_ok (value_of port value at.1) _ (λ given. P given.1) P
-    (value_holds P writes holding port value at.1 covers h)
+    → IfOk (element_set setting name operator value at) P
+element_holds setting P writes holding name assign.Set value at writes_it covers h =
+    then_ok (value_of setting value at.1) _ (λ given. P given.1) P
+    (value_holds setting P writes holding value at.1 covers h)
     (λ given k.
     then_ok (place_of given.1 name at.0) _ (λ place. Unit {0}) P
     (any_ok (place_of given.1 name at.0))
     (λ place _. holding.written given.1 name place given.0 writes_it k))
-element_holds P writes holding port name assign.Add value at writes_it covers h =
-    joined_element_holds P writes holding port name binary.Add value at writes_it covers h
-element_holds P writes holding port name assign.Subtract value at writes_it covers h =
-    joined_element_holds P writes holding port name binary.Subtract value at writes_it covers h
-element_holds P writes holding port name assign.Multiply value at writes_it covers h =
-    joined_element_holds P writes holding port name binary.Multiply value at writes_it covers h
-element_holds P writes holding port name assign.Divide value at writes_it covers h =
-    joined_element_holds P writes holding port name binary.Divide value at writes_it covers h
-element_holds P writes holding port name assign.Remainder value at writes_it covers h =
-    joined_element_holds P writes holding port name binary.Remainder value at writes_it covers h
+element_holds setting P writes holding name assign.Add value at writes_it covers h =
+    joined_element_holds setting P writes holding name binary.Add value at writes_it covers h
+element_holds setting P writes holding name assign.Subtract value at writes_it covers h =
+    joined_element_holds setting P writes holding name binary.Subtract value at writes_it covers h
+element_holds setting P writes holding name assign.Multiply value at writes_it covers h =
+    joined_element_holds setting P writes holding name binary.Multiply value at writes_it covers h
+element_holds setting P writes holding name assign.Divide value at writes_it covers h =
+    joined_element_holds setting P writes holding name binary.Divide value at writes_it covers h
+element_holds setting P writes holding name assign.Remainder value at writes_it covers h =
+    joined_element_holds setting P writes holding name binary.Remainder value at writes_it covers h
 
-pub element_assigned_holds : (P : Store → Type 0) (writes : List ℕ → Bool) → Holding P writes
-    → (port : Port) (name : List ℕ) (index : tree.Expr) (operator : AssignOperator)
+pub element_assigned_holds : (setting : Setting) (P : Store → Type 0) (writes : List ℕ → Bool)
+    → Holding setting P writes → (name : List ℕ) (index : tree.Expr) (operator : AssignOperator)
     (value : tree.Expr) (store : Store) → Covers writes
     (λ n. bytes_eq name n || (expr_writes n index || expr_writes n value)) → P store
-    → IfOk (result_and_then (value_of port index store) (element_set port name operator value)) P
-element_assigned_holds P writes holding port name index operator value store covers h =
-    then_ok (value_of port index store) (element_set port name operator value)
+    → IfOk (result_and_then (value_of setting index store)
+    (element_set setting name operator value)) P
+element_assigned_holds setting P writes holding name index operator value store covers h =
+    then_ok (value_of setting index store) (element_set setting name operator value)
     (λ given. P given.1) P
-    (value_holds P writes holding port index store
+    (value_holds setting P writes holding index store
     (λ n e. or_first (expr_writes n index) _ (or_second (bytes_eq name n) _ (covers n e))) h)
-    (λ at k. element_holds P writes holding port name operator value at
+    (λ at k. element_holds setting P writes holding name operator value at
     (λ n e. or_first (bytes_eq name n) _ (covers n e))
     (λ n e. or_second (expr_writes n index) _ (or_second (bytes_eq name n) _ (covers n e))) k)
 
 -- ---- variables that stay
 
--- the same variables with as many cells, and the same cells of each outer variable that isn't
--- written
-pub record Same (writes : List ℕ → Bool) (before after : Variables) : Type 0 where
+-- a name of one of the outermost n variables, but not of a field, which a call may write
+abbrev pub IsInner : (fields n : ℕ) → Scope → List ℕ → Type 0
+IsInner fields n scope name = is_declared (take (n - fields) (below n scope)) name ≡ true
+
+-- the same variables with as many cells, and the same cells of each outer variable that is neither
+-- a field nor written
+pub record Same (fields : ℕ) (writes : List ℕ → Bool) (before after : Variables) : Type 0 where
   pub shape : scope_of after ≡ scope_of before
-  pub cells : (n : ℕ) (name : List ℕ) → n ≤ length before
+  pub cells : (n : ℕ) (name : List ℕ) → n ≤ length before → IsInner fields n (scope_of before) name
       → Unwritten (above n (scope_of before)) name (writes name)
       → cells_named (below n after) name ≡ cells_named (below n before) name
 
@@ -307,18 +345,20 @@ pub same_size : (before after : Variables) → scope_of after ≡ scope_of befor
     → length after ≡ length before
 same_size before after shape = sym (length-map after _) ∙ (ap length shape ∙ length-map before _)
 
-pub same_refl : (writes : List ℕ → Bool) (variables : Variables) → Same writes variables variables
-same_refl writes variables = record { shape = refl; cells = λ n name le unwritten. refl }
+pub same_refl : (fields : ℕ) (writes : List ℕ → Bool) (variables : Variables)
+    → Same fields writes variables variables
+same_refl fields writes variables =
+    record { shape = refl; cells = λ n name le inner unwritten. refl }
 
-same_cell : (writes : List ℕ → Bool) (before after : Variables) (stepped : List ℕ) (place : ℕ)
-    (value : ℤ) → Covers writes (bytes_eq stepped) → Same writes before after
-    → Same writes before (with_cell after stepped place value)
-same_cell writes before after stepped place value covers h =
+same_cell : (fields : ℕ) (writes : List ℕ → Bool) (before after : Variables) (stepped : List ℕ)
+    (place : ℕ) (value : ℤ) → Covers writes (bytes_eq stepped) → Same fields writes before after
+    → Same fields writes before (with_cell after stepped place value)
+same_cell fields writes before after stepped place value covers h =
     let shape : scope_of (with_cell after stepped place value) ≡ scope_of after =
     scope_of-with_cell after stepped place value in
     record {
       shape = shape ∙ h.shape;
-      cells = λ n name le unwritten.
+      cells = λ n name le inner unwritten.
           let size : length (with_cell after stepped place value) ≡ length after =
           same_size after (with_cell after stepped place value) shape in
           let shadowing : above n (scope_of before) ≡ take (length after - n) (scope_of after) =
@@ -327,36 +367,159 @@ same_cell writes before after stepped place value covers h =
           ap (λ k. cells_named (drop (k - n) (with_cell after stepped place value)) name) size
           ∙ below_cells after (length after - n) stepped place value name
           (λ bare. covers name (unwritten (ap (λ s. is_declared s name) shadowing ∙ bare)))
-          ∙ h.cells n name le unwritten;
+          ∙ h.cells n name le inner unwritten;
     }
 
-pub same_holding : (writes : List ℕ → Bool) (before : Variables)
-    → Holding (λ store. Same writes before store.variables) writes
-same_holding writes before = record {
+declared_by : (first : List ℕ × ℕ) (a b : ℕ) (rest : Scope) (name : List ℕ) (t : Bool)
+    → (is_declared (take a rest) name ≡ true → is_declared (take b rest) name ≡ true)
+    → t || is_declared (take a rest) name ≡ true → t || is_declared (take b rest) name ≡ true
+declared_by first a b rest name true inside e = refl
+declared_by first a b rest name false inside e = inside e
+
+-- a name among some variables is among more of them
+declared_more : (a b : ℕ) (scope : Scope) (name : List ℕ) → a ≤ b
+    → is_declared (take a scope) name ≡ true → is_declared (take b scope) name ≡ true
+declared_more zero b scope name le e = absurd (cc)
+declared_more (suc a) zero scope name le e = absurd (omega (arith, le))
+declared_more (suc a) (suc b) [] name le e = e
+declared_more (suc a) (suc b) (first ∷ rest) name le e =
+    declared_by first a b rest name (bytes_eq first.0 name)
+    (declared_more a b rest name (omega (arith, le))) e
+
+-- a variable inside others has its cells whatever those are
+inner_by : (first : List ℕ × List ℤ) (rest rest' : Variables) (shown : Scope) (name : List ℕ)
+    (t : Bool) → (is_declared shown name ≡ true → cells_named rest' name ≡ cells_named rest name)
+    → t || is_declared shown name ≡ true
+    → cond t first.1 (cells_named rest' name) ≡ cond t first.1 (cells_named rest name)
+inner_by first rest rest' shown name true inside e = refl
+inner_by first rest rest' shown name false inside e = inside e
+
+inner_taken : (k : ℕ) (variables others : Variables) (name : List ℕ)
+    → is_declared (take k (scope_of variables)) name ≡ true
+    → cells_named (take k variables ++ others) name ≡ cells_named variables name
+inner_taken zero variables others name e = absurd (cc)
+inner_taken (suc k) [] others name e = absurd (cc)
+inner_taken (suc k) (first ∷ rest) others name e =
+    inner_by first rest (take k rest ++ others) (take k (scope_of rest)) name
+    (bytes_eq first.0 name) (inner_taken k rest others name) e
+
+none_declared : (n : ℕ) (name : List ℕ) → is_declared (take n []) name ≡ false
+none_declared zero name = refl
+none_declared (suc n) name = refl
+
+inner_below : (j k : ℕ) (variables others : Variables) (name : List ℕ)
+    → is_declared (take (k - j) (drop j (scope_of variables))) name ≡ true
+    → cells_named (drop j (take k variables ++ others)) name ≡ cells_named (drop j variables) name
+inner_below zero k variables others name e =
+    let same : k ≡ k - 0 = omega arith in
+    inner_taken k variables others name
+    (ap (λ n. is_declared (take n (scope_of variables)) name) same ∙ e)
+inner_below (suc j) zero variables others name e =
+    let none : 0 - suc j ≡ 0 = omega arith in
+    let never : false ≡ true =
+    ap (λ n. is_declared (take n (drop (suc j) (scope_of variables))) name) (sym none) ∙ e in
+    absurd (cc)
+inner_below (suc j) (suc k) [] others name e =
+    let never : false ≡ true = sym (none_declared (suc k - suc j) name) ∙ e in absurd (cc)
+inner_below (suc j) (suc k) (first ∷ rest) others name e =
+    let same : k - j ≡ suc k - suc j = omega arith in
+    inner_below j k rest others name
+    (ap (λ n. is_declared (take n (drop j (scope_of rest))) name) same ∙ e)
+
+-- no call changes variables inside so many outermost ones
+abbrev pub Reaches : Setting → (fields : ℕ) → Type 0
+Reaches setting fields =
+    (name : List ℕ) (values held : List ℤ) (turns : ℕ)
+    → IfOk (setting.call name values held turns) (λ called. setting.fields ≤ fields)
+
+pub reaches_fields : (setting : Setting) → Reaches setting setting.fields
+reaches_fields setting name values held turns =
+    IfOk-weaker (setting.call name values held turns) (λ called. Unit {0}) _
+    (λ called any. omega arith) (any_ok (setting.call name values held turns))
+
+same_called : (setting : Setting) (fields : ℕ) (writes : List ℕ → Bool) (before : Variables)
+    (store : Store) (called : Called) → setting.fields ≤ fields
+    → Same fields writes before store.variables
+    → Same fields writes before (after_call setting store called).variables
+same_called setting fields writes before store called reach h =
+    let variables = store.variables in
+    let after = (after_call setting store called).variables in
+    let size : length variables ≡ length before = same_size before variables h.shape in
+    let whole : length (scope_of variables) ≡ length variables = length-map variables _ in
+    record {
+      shape = scope_of-after_call setting store called ∙ h.shape;
+      cells = λ n name le inner unwritten.
+          let here : is_declared (take (n - fields) (drop (length variables - n)
+          (scope_of variables))) name ≡ true =
+          ap (λ k. is_declared (take (n - fields) (drop (k - n) (scope_of variables))) name)
+          (sym whole) ∙ ap (λ s. is_declared (take (n - fields) (below n s)) name) h.shape
+          ∙ inner in
+          ap (λ k. cells_named (drop (k - n) after) name) (length-after_call setting store called)
+          ∙ inner_below (length variables - n) (length variables - setting.fields) variables
+          (revalued (fields_in setting variables) called.fields) name
+          (declared_more (n - fields) ((length variables - setting.fields)
+          - (length variables - n)) (drop (length variables - n) (scope_of variables)) name
+          (omega (arith, reach, size, le)) here)
+          ∙ h.cells n name le inner unwritten;
+    }
+
+pub same_holding : (setting : Setting) (fields : ℕ) → Reaches setting fields
+    → (writes : List ℕ → Bool) (before : Variables)
+    → Holding setting (λ store. Same fields writes before store.variables) writes
+same_holding setting fields reach writes before = record {
   moved = λ store traffic h. h;
   written = λ store name place value covers h.
-      same_cell writes before store.variables name place value covers h;
+      same_cell fields writes before store.variables name place value covers h;
+  called = λ store name values h.
+      let held = values_of (fields_in setting store.variables) in
+      let turns = store.traffic.turns in
+      IfOk-weaker (setting.call name values held turns) (λ called. setting.fields ≤ fields) _
+      (λ called le. same_called setting fields writes before store called le h)
+      (reach name values held turns);
 }
 
-pub same_then : (writes : List ℕ → Bool) (a b c : Variables) → Same writes a b → Same writes b c
-    → Same writes a c
-same_then writes a b c h k = record {
+-- an evaluation leaves what its text doesn't write
+pub value_same : (setting : Setting) (fields : ℕ) → Reaches setting fields → (e : tree.Expr)
+    (store : Store) → IfOk (value_of setting e store)
+    (λ given. Same fields (λ name. expr_writes name e) store.variables given.1.variables)
+value_same setting fields reach e store =
+    let writes : List ℕ → Bool = λ name. expr_writes name e in
+    value_holds setting (λ s. Same fields writes store.variables s.variables) writes
+    (same_holding setting fields reach writes store.variables) e store (λ name f. f)
+    (same_refl fields writes store.variables)
+
+pub same_then : (fields : ℕ) (writes : List ℕ → Bool) (a b c : Variables) → Same fields writes a b
+    → Same fields writes b c → Same fields writes a c
+same_then fields writes a b c h k = record {
   shape = k.shape ∙ h.shape;
-  cells = λ n name le unwritten.
+  cells = λ n name le inner unwritten.
       let size : length b ≡ length a = same_size a b h.shape in
-      k.cells n name (omega arith) (λ bare. unwritten
-      (sym (ap (λ s. is_declared (above n s) name) h.shape) ∙ bare))
-      ∙ h.cells n name le unwritten;
+      k.cells n name (omega arith)
+      (ap (λ s. is_declared (take (n - fields) (below n s)) name) h.shape ∙ inner)
+      (λ bare. unwritten (sym (ap (λ s. is_declared (above n s) name) h.shape) ∙ bare))
+      ∙ h.cells n name le inner unwritten;
 }
+
+-- a name inside the fields, among all variables
+pub whole_inner : (fields : ℕ) (variables : Variables) (name : List ℕ)
+    → is_declared (above fields (scope_of variables)) name ≡ true
+    → IsInner fields (length variables) (scope_of variables) name
+whole_inner fields variables name inner =
+    let scope = scope_of variables in
+    let size : length scope ≡ length variables = length-map variables _ in
+    ap (λ k. is_declared (take (k - fields) (below k scope)) name) (sym size)
+    ∙ ap (λ l. is_declared (take (length scope - fields) l) name) (below_all scope) ∙ inner
 
 -- the cells of a name that isn't written
-pub same_cells : (writes : List ℕ → Bool) (before after : Variables) (name : List ℕ)
-    → Same writes before after → writes name ≡ false
+pub same_cells : (fields : ℕ) (writes : List ℕ → Bool) (before after : Variables) (name : List ℕ)
+    → Same fields writes before after
+    → is_declared (above fields (scope_of before)) name ≡ true → writes name ≡ false
     → cells_named after name ≡ cells_named before name
-same_cells writes before after name h unwritten =
+same_cells fields writes before after name h inner unwritten =
     let size : length after ≡ length before = same_size before after h.shape in
     let whole : below (length before) after ≡ after =
     ap (λ k. below k after) (sym size) ∙ below_all after in
     ap (λ v. cells_named v name) (sym whole)
-    ∙ h.cells (length before) name (omega arith) (λ bare. unwritten)
+    ∙ h.cells (length before) name (omega arith) (whole_inner fields before name inner)
+    (λ bare. unwritten)
     ∙ ap (λ v. cells_named v name) (below_all before)

@@ -1,23 +1,24 @@
 -- A run that writes no field leaves the fields' values.
 use Rattle.std.proofs.Common.{◌≡◌, refl, sym, ◌∙◌, ap, ℕ, suc, ◌≤◌, ℤ, Bool, true, false, cond, not}
-use Rattle.std.proofs.Common.{List, [], ◌∷◌, ◌++◌, length, take, drop, arith}
+use Rattle.std.proofs.Common.{◌-◌, List, [], ◌∷◌, ◌++◌, length, take, drop, arith}
 use Rattle.std.proofs.Common.{append_assoc, append-nil, take-append-drop, length-drop, reverse}
-use Rattle.std.specs.Prelude.{is_some}
+use Rattle.std.specs.Prelude.{is_some, bytes_eq}
+use Rattle.std.proofs.lemmas.List.{take_all}
 use Rattle.strc_syntax.specs.Tree as tree
 use Rattle.strc_semantics.specs.declared.body.Body.TheVariants as body
 use Rattle.strc_semantics.specs.Filters.{Filter, sized_fields, sized_all, field_names, work_block}
 use Rattle.strc_semantics.specs.Filters.{declared_names, prework_block, filter_prints}
-use Rattle.strc_semantics.specs.Scoping.{Scope, total, cells_of}
+use Rattle.strc_semantics.specs.Scoping.{Scope, total, cells_of, is_declared}
 use Rattle.strc_semantics.specs.Firing.{Variables, cells_named, bound_onto, values_of, store_at}
-use Rattle.strc_semantics.specs.Firing.{stmts_done, port_of}
+use Rattle.strc_semantics.specs.Firing.{stmts_done, setting_of}
 use Rattle.strc_interval.specs.Loops.{stmts_write}
 use Rattle.strc_rate.proofs.Scopes.{scope_of}
 use Rattle.strc_rate.proofs.Results.{or_first, or_second, and_first, and_second, then_ok, below}
 use Rattle.strc_rate.proofs.Results.{below_all}
-use Rattle.strc_rate.proofs.Results.{below_more}
-use Rattle.strc_rate.proofs.Keeping.{same_size, one_name}
-use Rattle.strc_rate.proofs.Unwritten.{Grown, left_same, stmts_keep}
-use Rattle.strc_code.proofs.ClosedBodies.{work_closed}
+use Rattle.strc_rate.proofs.Results.{below_more, below_map}
+use Rattle.strc_rate.proofs.Keeping.{Same, same_size, one_name}
+use Rattle.strc_rate.proofs.Unwritten.{Grown, left_same, stmts_keep, scope_length}
+use Rattle.strc_rate.proofs.Unreturned.{body_plain}
 use Rattle.strc_interval.specs.Stateless.{write_one_of, writes_field, is_stateless}
 use Rattle.strc_rate.specs.StatelessPromises.{StatelessKeepsFields}
 
@@ -143,21 +144,60 @@ no_write filter stateless =
     not_true (writes_field filter) (and_second (not (filter_prints filter)) _
     (and_second (not (is_some (prework_block filter.members))) _ stateless))
 
+-- a name that isn't declared has no cells
+no_cells : (variables : Variables) (name : List ℕ)
+    → is_declared (scope_of variables) name ≡ false → cells_named variables name ≡ []
+no_cells [] name bare = refl
+no_cells (first ∷ rest) name bare =
+    ap (λ t. cond t first.1 (cells_named rest name)) (or_first (bytes_eq first.0 name) _ bare)
+    ∙ no_cells rest name (or_second (bytes_eq first.0 name) _ bare)
+
+-- where no call changes a variable, the cells of all names that aren't written stay
+kept_cells : (writes : List ℕ → Bool) (before after : Variables) → Same 0 writes before after
+    → KeepsCells writes before after
+kept_cells writes before after same n name le unwritten =
+    by_test (is_declared (scope_of (below n before)) name) refl
+  where
+    size : length (scope_of before) ≡ length before
+    size = scope_length before
+
+    shown : take (n - 0) (below n (scope_of before)) ≡ scope_of (below n before)
+    shown =
+        let all = below_map (λ v. record { 0 = v.0; 1 = length v.1 }) n before in
+        let most : length (below n (scope_of before)) ≤ n - 0 =
+        omega (arith, size, length-drop (length (scope_of before) - n) (scope_of before)) in
+        take_all (n - 0) (below n (scope_of before)) most ∙ all
+
+    bare_after : scope_of (below n after) ≡ scope_of (below n before)
+    bare_after =
+        sym (below_map (λ v. record { 0 = v.0; 1 = length v.1 }) n after)
+        ∙ ap (below n) same.shape
+        ∙ below_map (λ v. record { 0 = v.0; 1 = length v.1 }) n before
+
+    by_test : (t : Bool) → is_declared (scope_of (below n before)) name ≡ t
+        → cells_named (below n after) name ≡ cells_named (below n before) name
+    by_test true e =
+        same.cells n name le (ap (λ s. is_declared s name) shown ∙ e) (λ bare. unwritten)
+    by_test false e =
+        no_cells (below n after) name (ap (λ s. is_declared s name) bare_after ∙ e)
+        ∙ sym (no_cells (below n before) name e)
+
 pub keeps_fields : StatelessKeepsFields
 keeps_fields filter fields window stateless closed size =
     let block = work_block filter.members in
     let writes : List ℕ → Bool = λ name. stmts_write name block in
-    let port = port_of filter body.Work window in
+    let setting = setting_of filter body.Work window in
     let store = store_at filter fields in
     let names = reverse (sized_fields filter.members) in
     let none : AreUnwritten writes store.variables =
     bound_unwritten writes [] (sized_fields filter.members) fields tt
     (fields_bare block filter.members (no_write filter stateless)) in
-    then_ok (stmts_done port block store) _
-    (λ after. Grown writes store.variables after.variables) (λ done. done.fields ≡ fields)
-    (stmts_keep port block names store (work_closed names filter.members closed))
-    (λ after grown.
-    let same = left_same writes store.variables after.variables grown in
+    then_ok (stmts_done setting block store) _
+    (λ after. Grown 0 writes store.variables after.variables) (λ done. done.fields ≡ fields)
+    (stmts_keep setting 0 (λ name values held turns. tt) block names store
+    (body_plain body.Work names filter.members closed)) (λ after grown.
+    let same = left_same 0 writes store.variables after.variables grown in
     same_values writes store.variables (below (length store.variables) after.variables) same.shape
-    (λ n name le unwritten. same.cells n name le (λ bare. unwritten)) none
+    (λ n name le unwritten. kept_cells writes store.variables
+    (below (length store.variables) after.variables) same n name le unwritten) none
     ∙ bound_values [] (sized_fields filter.members) fields size)

@@ -1,7 +1,7 @@
 -- The rates that are checked of a filter are those of its firings.
 use Rattle.std.proofs.Common.{◌≡◌, refl, subst, ℕ, ◌≤◌, ℤ, pos, negsuc, Bool, true, false, not}
 use Rattle.std.proofs.Common.{◌||◌, List, [], ◌∷◌, length, reverse, Option, Some, None, Result, Ok}
-use Rattle.std.proofs.Common.{Err, arith}
+use Rattle.std.proofs.Common.{Err, ◌+◌, take, drop, arith}
 use Rattle.std.specs.Prelude.{nat_eq, is_some, unwrap_or, if◌then◌else◌}
 use Rattle.std.specs.Result.{IfOk}
 use Rattle.std.specs.Int.RustNames.{int_lt}
@@ -15,9 +15,10 @@ use Rattle.strc_semantics.specs.Scoping.{Scope}
 use Rattle.strc_semantics.specs.Filters.{Filter, sized_fields, work_block, work_rates}
 use Rattle.strc_semantics.specs.Filters.{prework_block, prework_rates, body_block, body_rates}
 use Rattle.strc_semantics.specs.Filters.{push_rate, pop_rate, item_count, window_size}
-use Rattle.strc_semantics.specs.Closed.{AreClosed, IsClosedFilter}
-use Rattle.strc_semantics.specs.Firing.{Port, Store, stmts_done, no_traffic, port_of, store_at}
-use Rattle.strc_code.proofs.ClosedBodies.{body_closed}
+use Rattle.strc_semantics.specs.Closed.{IsClosedFilter}
+use Rattle.strc_semantics.specs.Firing.{Setting, Store, Variables, stmts_done, no_traffic}
+use Rattle.strc_semantics.specs.Firing.{setting_of, store_at, bound_onto}
+use Rattle.strc_rate.proofs.Unreturned.{ArePlain, body_plain}
 use Rattle.strc_rate.specs.declared.rates.RateError.{RateError}
 use Rattle.strc_rate.specs.declared.rates.RateError.TheVariants.{RateLimit, RateMismatch}
 use Rattle.strc_rate.specs.declared.rates.RateError.TheVariants.{PeekOutside}
@@ -33,6 +34,7 @@ use Rattle.strc_rate.specs.Rates.{work_checked, some_prework, prework_checked, t
 use Rattle.strc_rate.specs.Kept.{CheckedRatesAreKept}
 use Rattle.strc_rate.specs.Safe.{rates_of}
 use Rattle.strc_rate.proofs.Results.{and_first, and_second}
+use Rattle.strc_rate.proofs.Unwritten.{scope_length}
 use Rattle.strc_rate.proofs.CountedMoves.{Moves, Counted}
 use Rattle.strc_rate.proofs.StatementCounts.{stmts_counted}
 
@@ -84,36 +86,52 @@ OfBodies C R =
     (lacks : Bool) (rates : List tree.Rate) (block : tree.Stmts) → C block
     → IfOk (body_checked lacks rates block) (R rates block)
 
+bound_size : (variables : Variables) (fields : Scope) (values : List ℤ)
+    → length (bound_onto variables fields values) ≡ length variables + length fields
+bound_size variables [] values = omega arith
+bound_size variables (field ∷ fields) values =
+    let more = bound_size (record { 0 = field.0; 1 = take field.1 values } ∷ variables) fields
+    (drop field.1 values) in
+    omega (arith, more)
+
+-- the store of a firing has the filter's fields
+pub fields_there : (filter : Filter) (values : List ℤ)
+    → length (sized_fields filter.members) ≤ length (store_at filter values).variables
+fields_there filter values =
+    omega (arith, bound_size [] (sized_fields filter.members) values)
+
 -- each run of a block from no traffic keeps the declared rates
 abbrev RunsKeep : List tree.Rate → tree.Stmts → BodyRates → Type 0
 RunsKeep rates block accepted =
-    (port : Port) (store : Store) → store.traffic ≡ no_traffic
-    → IfOk (stmts_done port block store) (λ after.
+    (setting : Setting) (store : Store) → setting.fields ≤ length store.variables
+    → store.traffic ≡ no_traffic
+    → IfOk (stmts_done setting block store) (λ after.
     (after.traffic.popped ≡ item_count (pop_rate rates))
     × (length after.traffic.pushes ≡ item_count (push_rate rates)))
 
-body_kept : (names : Scope) → OfBodies (AreClosed names) RunsKeep
+body_kept : (names : Scope) → OfBodies (ArePlain names) RunsKeep
 body_kept names lacks rates block closed =
     accepted_by (are_within_limit rates) lacks rates (stmts_counts [] block)
     (body_sights (window_size rates) block) (RunsKeep rates block)
-    (λ c limits counts pushes pops port store none.
+    (λ c limits counts pushes pops setting store room none.
     let push_limit = limited (push_rate rates)
     (and_first (within_limit (push_rate rates)) _ limits) in
     let pop_limit = limited (pop_rate rates)
     (and_first (within_limit (pop_rate rates)) _
     (and_second (within_limit (push_rate rates)) _ limits)) in
-    IfOk-weaker (stmts_done port block store) (λ after. Moves no_traffic after.traffic c) _
+    IfOk-weaker (stmts_done setting block store) (λ after. Moves no_traffic after.traffic c) _
     (λ after h.
     let popped = h.popped in
     let pushed = h.pushed in
     let saturated_pops = h.saturated_pops in
     let saturated_pushes = h.saturated_pushes in
     (omega arith, omega arith))
-    (subst (λ traffic. IfOk (stmts_done port block store) (λ after. Moves traffic after.traffic c))
-    none
-    (subst (λ x. IfOk (stmts_done port block store)
+    (subst (λ traffic. IfOk (stmts_done setting block store)
+    (λ after. Moves traffic after.traffic c)) none
+    (subst (λ x. IfOk (stmts_done setting block store)
     (λ after. Counted x store.traffic after.traffic)) counts
-    (stmts_counted port block [] names store closed tt))))
+    (stmts_counted setting block [] names store closed
+    (omega (arith, room, scope_length store.variables))))))
 
 -- the rates and the block of a prework, or none
 rates_with_block : (members : List tree.Member)
@@ -178,11 +196,11 @@ of_filters C R each filter fits =
     by_body rates kept body.Prework = kept.0
     by_body rates kept body.Work = kept.1
 
--- the bodies of a filter of known names name nothing else
-pub bodies_closed : (filter : Filter) → IsClosedFilter filter → (body : Body)
-    → AreClosed (reverse (sized_fields filter.members)) (body_block body filter.members)
-bodies_closed filter closed body =
-    body_closed body (reverse (sized_fields filter.members)) filter.members closed
+-- the bodies of a filter of known names name nothing else, and don't return
+pub bodies_plain : (filter : Filter) → IsClosedFilter filter → (body : Body)
+    → ArePlain (reverse (sized_fields filter.members)) (body_block body filter.members)
+bodies_plain filter closed body =
+    body_plain body (reverse (sized_fields filter.members)) filter.members closed
 
 pub rates_kept : CheckedRatesAreKept
 rates_kept filter closed =
@@ -190,6 +208,6 @@ rates_kept filter closed =
     IfOk-weaker (checked filter) (λ rates. (body : Body)
     → RunsKeep (body_rates body filter.members) (body_block body filter.members)
     (rates_of rates body)) _
-    (λ rates kept body fields window. kept body (port_of filter body window)
-    (store_at filter fields) refl)
-    (of_filters (AreClosed names) RunsKeep (body_kept names) filter (bodies_closed filter closed))
+    (λ rates kept body fields window. kept body (setting_of filter body window)
+    (store_at filter fields) (fields_there filter fields) refl)
+    (of_filters (ArePlain names) RunsKeep (body_kept names) filter (bodies_plain filter closed))

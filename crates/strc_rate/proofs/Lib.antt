@@ -9,6 +9,7 @@ pub mod Sighting
 pub mod Unreaching
 pub mod Results
 pub mod Keeping
+mod Unreturned
 pub mod Unwritten
 pub mod LoopTurns
 pub mod LoopParts

@@ -18,10 +18,10 @@ use Rattle.strc_semantics.specs.declared.fault.Cause.{Cause}
 use Rattle.strc_semantics.specs.Arithmetic.{wrapped, truth, binary_value}
 use Rattle.strc_base.specs.Names.{has_name}
 use Rattle.strc_semantics.specs.Scoping.{Scope, size_named, size_of, cells_of, with_declared}
-use Rattle.strc_semantics.specs.Scoping.{names_after}
+use Rattle.strc_semantics.specs.Scoping.{names_after, is_declared}
 use Rattle.strc_semantics.specs.Constants.{constant_value, IsConstant}
 use Rattle.strc_semantics.specs.Closed.{FitsInitial, AreClosedVariables, IsClosedStmt}
-use Rattle.strc_semantics.specs.Firing.{Port, Store, Variables, cells_named, with_cell, value_in}
+use Rattle.strc_semantics.specs.Firing.{Setting, Store, Variables, cells_named, with_cell, value_in}
 use Rattle.strc_semantics.specs.Firing.{assigned, value_of, value_stepped, assigned_value, joined}
 use Rattle.strc_semantics.specs.Firing.{inside, stmt_done}
 use Rattle.strc_semantics.proofs.ConstantValues.{constant_value_Ok}
@@ -31,7 +31,7 @@ use Rattle.strc_interval.specs.declared.loops.Bound.{Bound}
 use Rattle.strc_interval.specs.Loops.{Locals, with_locals, locals_after, is_order}
 use Rattle.strc_interval.specs.Loops.{is_variable, bound_of, step_move, moved_by, sum_move}
 use Rattle.strc_interval.specs.Loops.{assign_move, value_move, move_of}
-use Rattle.strc_rate.proofs.Results.{and_first, and_second, any_ok, ok_known}
+use Rattle.strc_rate.proofs.Results.{and_first, and_second, any_ok, ok_known, above, above_more}
 use Rattle.strc_rate.proofs.Keeping.{same_name, one_name}
 use Rattle.strc_rate.proofs.LoopTurns.{compares}
 
@@ -65,29 +65,30 @@ faultless_Ok : (r : Result ℤ Cause) (v : ℤ) → faultless r ≡ Some v → r
 faultless_Ok (Ok value) v e = let same : value ≡ v = cc in ap Ok same
 faultless_Ok (Err cause) v e = absurd (cc)
 
-constant_by : (port : Port) (e : tree.Expr) (store : Store) (v : ℤ) (t : Bool) → is_constant e ≡ t
-    → (if t then faultless (constant_value e) else None) ≡ Some v
-    → value_of port e store ≡ Ok (v, store)
-constant_by port e store v true is h = constant_value_Ok port e store v (constant_form e is)
+constant_by : (setting : Setting) (e : tree.Expr) (store : Store) (v : ℤ) (t : Bool)
+    → is_constant e ≡ t → (if t then faultless (constant_value e) else None) ≡ Some v
+    → value_of setting e store ≡ Ok (v, store)
+constant_by setting e store v true is h = constant_value_Ok setting e store v (constant_form e is)
     (faultless_Ok (constant_value e) v h)
-constant_by port e store v false is h = absurd (cc)
+constant_by setting e store v false is h = absurd (cc)
 
 -- a constant has its value in each store, and changes none
-pub constant_done : (port : Port) (e : tree.Expr) (store : Store) (v : ℤ) → constant e ≡ Some v
-    → value_of port e store ≡ Ok (v, store)
-constant_done port e store v h = constant_by port e store v (is_constant e) refl h
+pub constant_done : (setting : Setting) (e : tree.Expr) (store : Store) (v : ℤ)
+    → constant e ≡ Some v → value_of setting e store ≡ Ok (v, store)
+constant_done setting e store v h = constant_by setting e store v (is_constant e) refl h
 
-sound_by : (port : Port) (e : tree.Expr) (store : Store) (known : Option ℤ) → constant e ≡ known
-    → IfOk (value_of port e store) (λ given. IfSome known (λ v. given.0 ≡ v))
-sound_by port e store None is = any_ok (value_of port e store)
-sound_by port e store (Some v) is =
-    ok_known (value_of port e store) (v, store) (λ given. given.0 ≡ v)
-    (constant_done port e store v is) refl
+sound_by : (setting : Setting) (e : tree.Expr) (store : Store) (known : Option ℤ)
+    → constant e ≡ known
+    → IfOk (value_of setting e store) (λ given. IfSome known (λ v. given.0 ≡ v))
+sound_by setting e store None is = any_ok (value_of setting e store)
+sound_by setting e store (Some v) is =
+    ok_known (value_of setting e store) (v, store) (λ given. given.0 ≡ v)
+    (constant_done setting e store v is) refl
 
 -- a known value is the one that an evaluation gives
-pub constant_sound : (port : Port) (e : tree.Expr) (store : Store)
-    → IfOk (value_of port e store) (λ given. IfSome (constant e) (λ v. given.0 ≡ v))
-constant_sound port e store = sound_by port e store (constant e) refl
+pub constant_sound : (setting : Setting) (e : tree.Expr) (store : Store)
+    → IfOk (value_of setting e store) (λ given. IfSome (constant e) (λ v. given.0 ≡ v))
+constant_sound setting e store = sound_by setting e store (constant e) refl
 
 -- ---- cells
 
@@ -126,11 +127,12 @@ assigned_is (first ∷ rest) name value some =
     value_by first rest name value (bytes_eq first.0 name) refl some
     (λ h. assigned_is rest name value h)
 
--- the local variables are the innermost of the store's, each with a cell
-abbrev pub Seen : Locals → Scope → Type 0
-Seen [] scope = Unit {0}
-Seen (name ∷ locals) [] = ⊥
-Seen (name ∷ locals) (first ∷ scope) = (first.0 ≡ name) × (1 ≤ first.1) × Seen locals scope
+-- the local variables are the innermost of the store's, each with a cell, inside the fields
+abbrev pub Seen : (fields : ℕ) → Locals → Scope → Type 0
+Seen fields [] scope = fields ≤ length scope
+Seen fields (name ∷ locals) [] = ⊥
+Seen fields (name ∷ locals) (first ∷ scope) =
+    (first.0 ≡ name) × (1 ≤ first.1) × Seen fields locals scope
 
 seen_by : (first : List ℕ × ℕ) (scope : Scope) (name other : List ℕ) (locals : Locals) (t : Bool)
     → 1 ≤ first.1 → t || has_name locals other ≡ true
@@ -140,52 +142,84 @@ seen_by first scope name other locals true some e inside = some
 seen_by first scope name other locals false some e inside = inside e
 
 -- a local variable has a cell
-pub seen_sized : (locals : Locals) (scope : Scope) (name : List ℕ) → Seen locals scope
-    → has_name locals name ≡ true → 1 ≤ size_of scope name
-seen_sized [] scope name seen e = absurd (cc)
-seen_sized (local ∷ locals) [] name seen e = absurd seen
-seen_sized (local ∷ locals) (first ∷ scope) name seen e =
+pub seen_sized : (fields : ℕ) (locals : Locals) (scope : Scope) (name : List ℕ)
+    → Seen fields locals scope → has_name locals name ≡ true → 1 ≤ size_of scope name
+seen_sized fields [] scope name seen e = absurd (cc)
+seen_sized fields (local ∷ locals) [] name seen e = absurd seen
+seen_sized fields (local ∷ locals) (first ∷ scope) name seen e =
     seen_by first scope local name locals (bytes_eq first.0 name) seen.1
     (ap (λ n. bytes_eq n name || has_name locals name) seen.0 ∙ e)
-    (λ f. seen_sized locals scope name seen.2 f)
+    (λ f. seen_sized fields locals scope name seen.2 f)
+
+-- the fields are among the store's variables
+pub seen_room : (fields : ℕ) (locals : Locals) (scope : Scope) → Seen fields locals scope
+    → fields ≤ length scope
+seen_room fields [] scope seen = seen
+seen_room fields (local ∷ locals) [] seen = absurd seen
+seen_room fields (local ∷ locals) (first ∷ scope) seen =
+    omega (arith, seen_room fields locals scope seen.2)
+
+inner_first : (first : List ℕ × ℕ) (shown : Scope) (local name : List ℕ) (locals : Locals)
+    (t : Bool) → bytes_eq first.0 name ≡ t → first.0 ≡ local
+    → bytes_eq local name || has_name locals name ≡ true
+    → (has_name locals name ≡ true → is_declared shown name ≡ true)
+    → t || is_declared shown name ≡ true
+inner_first first shown local name locals true is same e inside = refl
+inner_first first shown local name locals false is same e inside =
+    let other : bytes_eq local name ≡ false = ap (λ n. bytes_eq n name) (sym same) ∙ is in
+    inside (ap (λ t. t || has_name locals name) (sym other) ∙ e)
+
+-- a local variable is no field
+pub seen_inner : (fields : ℕ) (locals : Locals) (scope : Scope) (name : List ℕ)
+    → Seen fields locals scope → has_name locals name ≡ true
+    → is_declared (above fields scope) name ≡ true
+seen_inner fields [] scope name seen e = absurd (cc)
+seen_inner fields (local ∷ locals) [] name seen e = absurd seen
+seen_inner fields (local ∷ locals) (first ∷ scope) name seen e =
+    ap (λ s. is_declared s name)
+    (above_more fields first scope (seen_room fields locals scope seen.2))
+    ∙ inner_first first (above fields scope) local name locals (bytes_eq first.0 name) refl seen.0
+    e (λ f. seen_inner fields locals scope name seen.2 f)
 
 fits_some : (cells : ℕ) (initial : Option tree.Expr) → FitsInitial cells initial → 1 ≤ cells
 fits_some cells None fits = fits
 fits_some cells (Some initial) fits = omega arith
 
-seen_declared : (locals : Locals) (scope names : Scope) (cells : ℕ) (variables : List tree.Variable)
-    → AreClosedVariables names cells variables → Seen locals scope
-    → Seen (with_locals locals variables) (with_declared scope cells variables)
-seen_declared locals scope names cells [] closed seen = seen
-seen_declared locals scope names cells (first ∷ rest) closed seen =
-    seen_declared (first.name ∷ locals) (record { 0 = first.name; 1 = cells } ∷ scope)
+seen_declared : (fields : ℕ) (locals : Locals) (scope names : Scope) (cells : ℕ)
+    (variables : List tree.Variable)
+    → AreClosedVariables names cells variables → Seen fields locals scope
+    → Seen fields (with_locals locals variables) (with_declared scope cells variables)
+seen_declared fields locals scope names cells [] closed seen = seen
+seen_declared fields locals scope names cells (first ∷ rest) closed seen =
+    seen_declared fields (first.name ∷ locals) (record { 0 = first.name; 1 = cells } ∷ scope)
     (record { 0 = first.name; 1 = cells } ∷ names) cells rest closed.2
     (refl, fits_some cells first.initial closed.1, seen)
 
-pub seen_after : (s : tree.Stmt) (locals : Locals) (scope names : Scope) → IsClosedStmt names s
-    → Seen locals scope → Seen (locals_after locals s) (names_after scope s)
-seen_after (tree.Declare kind variables) locals scope names closed seen =
-    seen_declared locals scope names (cells_of kind) variables closed seen
-seen_after tree.Empty locals scope names closed seen = seen
-seen_after (tree.Compose statement) locals scope names closed seen = seen
-seen_after (tree.Block body) locals scope names closed seen = seen
-seen_after (tree.Evaluate value) locals scope names closed seen = seen
-seen_after (tree.Assign assigned operator value) locals scope names closed seen =
+pub seen_after : (fields : ℕ) (s : tree.Stmt) (locals : Locals) (scope names : Scope)
+    → IsClosedStmt names s → Seen fields locals scope
+    → Seen fields (locals_after locals s) (names_after scope s)
+seen_after fields (tree.Declare kind variables) locals scope names closed seen =
+    seen_declared fields locals scope names (cells_of kind) variables closed seen
+seen_after fields tree.Empty locals scope names closed seen = seen
+seen_after fields (tree.Compose statement) locals scope names closed seen = seen
+seen_after fields (tree.Block body) locals scope names closed seen = seen
+seen_after fields (tree.Evaluate value) locals scope names closed seen = seen
+seen_after fields (tree.Assign assigned operator value) locals scope names closed seen =
     seen
-seen_after (tree.AssignElement array index operator value) locals scope names closed
+seen_after fields (tree.AssignElement array index operator value) locals scope names closed
     seen = seen
-seen_after (tree.If condition chosen) locals scope names closed seen =
+seen_after fields (tree.If condition chosen) locals scope names closed seen =
     seen
-seen_after (tree.IfElse condition chosen other) locals scope names closed seen =
+seen_after fields (tree.IfElse condition chosen other) locals scope names closed seen =
     seen
-seen_after (tree.While condition body) locals scope names closed seen =
+seen_after fields (tree.While condition body) locals scope names closed seen =
     seen
-seen_after (tree.For first condition step body) locals scope names closed seen =
+seen_after fields (tree.For first condition step body) locals scope names closed seen =
     seen
-seen_after (tree.Push value) locals scope names closed seen = seen
-seen_after (tree.Print value) locals scope names closed seen = seen
-seen_after (tree.Println value) locals scope names closed seen = seen
-seen_after (tree.Return value) locals scope names closed seen = seen
+seen_after fields (tree.Push value) locals scope names closed seen = seen
+seen_after fields (tree.Print value) locals scope names closed seen = seen
+seen_after fields (tree.Println value) locals scope names closed seen = seen
+seen_after fields (tree.Return value) locals scope names closed seen = seen
 
 -- ---- the condition
 
@@ -212,30 +246,30 @@ compared binary.GreaterOrEqual v l store right order e =
 compared _ v l store right order e = absurd (cc)
 
 -- the variable's value
-variable_done : (port : Port) (name : List ℕ) (e : tree.Expr) (store : Store)
-    → is_variable name e ≡ true → value_of port e store ≡ Ok (value_in store name, store)
-variable_done port name (tree.Read read) store is = let same : read ≡ name =
+variable_done : (setting : Setting) (name : List ℕ) (e : tree.Expr) (store : Store)
+    → is_variable name e ≡ true → value_of setting e store ≡ Ok (value_in store name, store)
+variable_done setting name (tree.Read read) store is = let same : read ≡ name =
     same_name read name is in
     ap (λ n. Ok (value_in store n, store))
     same
-variable_done port name (tree.Number value) store is = absurd (cc)
-variable_done port name (tree.Truth value) store is = absurd (cc)
-variable_done port name (tree.Element array index) store is = absurd (cc)
-variable_done port name tree.Pop store is = absurd (cc)
-variable_done port name (tree.Peek index) store is = absurd (cc)
-variable_done port name (tree.Call called arguments) store is = absurd (cc)
-variable_done port name (tree.Group inner) store is = absurd (cc)
-variable_done port name (tree.Unary operator operand) store is = absurd (cc)
-variable_done port name (tree.Step operator stepped) store is = absurd (cc)
-variable_done port name (tree.StepElement operator array index) store is = absurd (cc)
-variable_done port name (tree.Binary operator left right) store is = absurd (cc)
-variable_done port name (tree.Conditional condition chosen other) store is = absurd (cc)
+variable_done setting name (tree.Number value) store is = absurd (cc)
+variable_done setting name (tree.Truth value) store is = absurd (cc)
+variable_done setting name (tree.Element array index) store is = absurd (cc)
+variable_done setting name tree.Pop store is = absurd (cc)
+variable_done setting name (tree.Peek index) store is = absurd (cc)
+variable_done setting name (tree.Call called arguments) store is = absurd (cc)
+variable_done setting name (tree.Group inner) store is = absurd (cc)
+variable_done setting name (tree.Unary operator operand) store is = absurd (cc)
+variable_done setting name (tree.Step operator stepped) store is = absurd (cc)
+variable_done setting name (tree.StepElement operator array index) store is = absurd (cc)
+variable_done setting name (tree.Binary operator left right) store is = absurd (cc)
+variable_done setting name (tree.Conditional condition chosen other) store is = absurd (cc)
 
 -- what a bound means: an order between the variable and the limit
 abbrev pub Bounds : List ℕ → tree.Expr → Bound → Type 0
 Bounds name e bound =
-    (is_order bound.operator ≡ true) × ((port : Port) (store : Store)
-    → value_of port e store ≡ Ok (
+    (is_order bound.operator ≡ true) × ((setting : Setting) (store : Store)
+    → value_of setting e store ≡ Ok (
       truth
           (compares bound.operator (value_in store name) bound.limit),
       store,
@@ -249,13 +283,13 @@ bounds_by name operator left right false limit e f = tt
 bounds_by name operator left right true None e f = tt
 bounds_by name operator left right true (Some limit) e f = (
   and_first (is_order operator) (is_variable name left) e,
-  λ port store.
-      ap (λ r. result_and_then r (λ first. joined operator first (value_of port right)))
-      (variable_done port name left store
+  λ setting store.
+      ap (λ r. result_and_then r (λ first. joined operator first (value_of setting right)))
+      (variable_done setting name left store
       (and_second (is_order operator) (is_variable name left) e))
-      ∙ compared operator (value_in store name) limit store (value_of port right)
+      ∙ compared operator (value_in store name) limit store (value_of setting right)
       (and_first (is_order operator) (is_variable name left) e)
-      (constant_done port right store limit f),
+      (constant_done setting right store limit f),
 )
 
 pub bounds_sound : (name : List ℕ) (e : tree.Expr) → IfSome (bound_of name e) (Bounds name e)
@@ -280,7 +314,7 @@ bounds_sound name (tree.Conditional condition chosen other) = tt
 -- what a step does: the variable moves
 abbrev pub Steps : List ℕ → tree.Stmt → ℤ → Type 0
 Steps name s move =
-    (port : Port) (store : Store) → stmt_done port s store
+    (setting : Setting) (store : Store) → stmt_done setting s store
     ≡ Ok (assigned store name (wrapped (value_in store name +ℤ move)))
 
 stepped_by_one : (operator : StepOperator) (value : ℤ)
@@ -295,7 +329,7 @@ step_by : (name : List ℕ) (operator : StepOperator) (stepped : List ℕ) (t : 
     (Steps name (tree.Evaluate (tree.Step operator stepped)))
 step_by name operator stepped false e = tt
 step_by name operator stepped true e =
-    λ port store.
+    λ setting store.
     let same : stepped ≡ name = same_name stepped name e in
     ap (λ n. Ok (assigned store n (value_stepped operator (value_in store n)))) same
     ∙ ap (λ v. Ok (assigned store name v)) (stepped_by_one operator (value_in store name))
@@ -320,7 +354,7 @@ evaluated_sound name (tree.Conditional condition chosen other) = tt
 -- the value of a sum or a difference with a constant
 abbrev Sums : List ℕ → tree.Expr → ℤ → Type 0
 Sums name e move =
-    (port : Port) (store : Store) → value_of port e store
+    (setting : Setting) (store : Store) → value_of setting e store
     ≡ Ok (wrapped (value_in store name +ℤ move), store)
 
 sum_by : (name : List ℕ) (left right : tree.Expr) (given : Option ℤ) → is_variable name left ≡ true
@@ -328,16 +362,16 @@ sum_by : (name : List ℕ) (left right : tree.Expr) (given : Option ℤ) → is_
     × IfSome (option_map neg_ℤ given) (Sums name (tree.Binary binary.Subtract left right))
 sum_by name left right None is f = (tt, tt)
 sum_by name left right (Some given) is f = (
-  λ port store.
-      ap (λ r. result_and_then r (λ first. joined binary.Add first (value_of port right)))
-      (variable_done port name left store is)
-      ∙ strict_value binary.Add (value_in store name) given store (value_of port right)
-      (constant_done port right store given f),
-  λ port store.
-      ap (λ r. result_and_then r (λ first. joined binary.Subtract first (value_of port right)))
-      (variable_done port name left store is)
-      ∙ strict_value binary.Subtract (value_in store name) given store (value_of port right)
-      (constant_done port right store given f),
+  λ setting store.
+      ap (λ r. result_and_then r (λ first. joined binary.Add first (value_of setting right)))
+      (variable_done setting name left store is)
+      ∙ strict_value binary.Add (value_in store name) given store (value_of setting right)
+      (constant_done setting right store given f),
+  λ setting store.
+      ap (λ r. result_and_then r (λ first. joined binary.Subtract first (value_of setting right)))
+      (variable_done setting name left store is)
+      ∙ strict_value binary.Subtract (value_in store name) given store (value_of setting right)
+      (constant_done setting right store given f),
 )
 
 moved_sound : (name : List ℕ) (operator : BinaryOperator) (left right : tree.Expr)
@@ -401,8 +435,8 @@ sums_step : (name : List ℕ) (operator : AssignOperator) (value : tree.Expr) (m
     → IfSome move (Steps name (tree.Assign name operator value))
 sums_step name operator value None sums = tt
 sums_step name operator value (Some move) sums =
-    λ port store. ap (λ r. result_and_then r (λ given. Ok (assigned given.1 name given.0)))
-    (sums port store)
+    λ setting store. ap (λ r. result_and_then r (λ given. Ok (assigned given.1 name given.0)))
+    (sums setting store)
 
 assigned_sound_by : (name assigned : List ℕ) (operator : AssignOperator) (value : tree.Expr)
     (t : Bool) → bytes_eq assigned name ≡ t

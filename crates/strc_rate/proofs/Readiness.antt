@@ -15,11 +15,13 @@ use Rattle.strc_syntax.specs.declared.tree.BinaryOperator.TheVariants as binary
 use Rattle.strc_semantics.specs.Arithmetic.{is_true}
 use Rattle.strc_semantics.specs.Constants.{decides}
 use Rattle.strc_semantics.specs.Scoping.{Scope, is_declared, cells_of, with_declared, names_after}
-use Rattle.strc_semantics.specs.Closed.{FitsInitial, IsClosedStmt}
-use Rattle.strc_semantics.specs.Firing.{Port, Traffic, Store, Variables, cells_named, value_in}
+use Rattle.strc_semantics.specs.Closed.{FitsInitial}
+use Rattle.strc_rate.proofs.Unreturned.{IsPlain}
+use Rattle.strc_semantics.specs.Firing.{Setting, Traffic, Store, Variables, cells_named, value_in}
 use Rattle.strc_semantics.specs.Firing.{value_of, initial_cells, declared_in, condition_value}
 use Rattle.strc_semantics.specs.Firing.{inside, stmt_done}
 use Rattle.strc_rate.proofs.Scopes.{scope_of}
+use Rattle.strc_base.specs.Names.{has_name}
 use Rattle.strc_interval.specs.Constant.{constant}
 use Rattle.strc_interval.specs.Loops.{with_locals, locals_after, declares, shadows, expr_writes}
 use Rattle.strc_interval.specs.Loops.{option_writes, stmt_writes}
@@ -33,9 +35,10 @@ use Rattle.strc_rate.specs.Peeks.{PopInterval, pops_of, advance, in_turns}
 use Rattle.strc_interval.specs.Intervals.{names_of}
 use Rattle.strc_rate.proofs.Results.{or_first, or_second, then_ok, both_ok, above, below_all}
 use Rattle.strc_rate.proofs.Results.{above_more}
-use Rattle.strc_rate.proofs.Keeping.{Same, same_refl, same_holding, same_cells, value_holds}
+use Rattle.strc_rate.proofs.Keeping.{Same, same_refl, same_cells, value_same, whole_inner}
+use Rattle.strc_rate.proofs.Keeping.{reaches_fields}
 use Rattle.strc_rate.proofs.Unwritten.{Done, scope_length, inside_same, stmt_keeps}
-use Rattle.strc_rate.proofs.LoopParts.{Seen, seen_after}
+use Rattle.strc_rate.proofs.LoopParts.{Seen, seen_after, seen_inner}
 use Rattle.strc_rate.proofs.CountedMoves.{Moves, Counted, stays, same_pops, value_counts}
 use Rattle.strc_rate.proofs.StatementCounts.{inside_counts, stmt_counted}
 use Rattle.strc_rate.proofs.IntervalValues.{Within, Holds}
@@ -174,6 +177,21 @@ holds_by : (interval : Option Interval) (old new : ℤ) → (is_some interval �
     → IfSome interval (λ r. Within r old) → IfSome interval (λ r. Within r new)
 holds_by None old new same h = tt
 holds_by (Some interval) old new same h = subst (Within interval) (sym (same refl)) h
+
+named_by : (first : List ℕ × Option Interval) (rest : Intervals) (name : List ℕ) (t : Bool)
+    → (is_some (interval_named rest name) ≡ true → has_name (names_of rest) name ≡ true)
+    → is_some (cond t first.1 (interval_named rest name)) ≡ true
+    → t || has_name (names_of rest) name ≡ true
+named_by first rest name true inside e = refl
+named_by first rest name false inside e = inside e
+
+-- a variable of a known interval is a local one
+pub known_named : (intervals : Intervals) (name : List ℕ)
+    → is_some (interval_named intervals name) ≡ true
+    → has_name (names_of intervals) name ≡ true
+known_named [] name e = absurd (cc)
+known_named (first ∷ rest) name e =
+    named_by first rest name (bytes_eq first.0 name) (known_named rest name) e
 
 -- intervals hold as long as the cells are the same
 holds_same : (intervals : Intervals) (before after : Store)
@@ -334,11 +352,11 @@ shown (tree.Println value) scope n name le bare e = bare
 shown (tree.Return value) scope n name le bare e = bare
 
 -- what a statement neither writes nor shadows has the same cells
-done_cells : (s : tree.Stmt) (before after : Variables) (name : List ℕ)
-    → Done (λ n. stmt_writes n s) (names_after (scope_of before) s) before after
-    → stmt_writes name s ≡ false → shadows name s ≡ false
-    → cells_named after name ≡ cells_named before name
-done_cells s before after name done unwritten bare =
+done_cells : (fields : ℕ) (s : tree.Stmt) (before after : Variables) (name : List ℕ)
+    → Done fields (λ n. stmt_writes n s) (names_after (scope_of before) s) before after
+    → is_declared (above fields (scope_of before)) name ≡ true → stmt_writes name s ≡ false
+    → shadows name s ≡ false → cells_named after name ≡ cells_named before name
+done_cells fields s before after name done inner unwritten bare =
     let size : length (scope_of before) ≡ length before = scope_length before in
     let none : length (scope_of before) - length before ≡ 0 = omega arith in
     let empty : is_declared (above (length before) (scope_of before)) name ≡ false =
@@ -350,23 +368,35 @@ done_cells s before after name done unwritten bare =
     cells_after (length after - length before) after name
     (ap (λ l. is_declared l name) shadowing ∙ shown s (scope_of before) (length before) name
     (omega arith) empty bare)
-    ∙ done.grown.cells (length before) name (omega arith) (λ e. unwritten)
+    ∙ done.grown.cells (length before) name (omega arith)
+    (whole_inner fields before name inner) (λ e. unwritten)
     ∙ ap (λ v. cells_named v name) (below_all before)
 
 -- ---- places of the text
 
 -- what is known at a place: the local variables, their intervals, and how many items are popped at
 -- most
-pub record Ready (intervals : Intervals) (popped : PopInterval) (store : Store) : Type 0 where
-  pub seen : Seen (names_of intervals) (scope_of store.variables)
+pub record Ready (fields : ℕ) (intervals : Intervals) (popped : PopInterval) (store : Store)
+    : Type 0 where
+  pub seen : Seen fields (names_of intervals) (scope_of store.variables)
   pub holds : Holds intervals store
   pub within : saturated store.traffic.popped ≤ popped.high
 
+-- a variable of a known interval is no field
+pub known_inner : (fields : ℕ) (intervals : Intervals) (popped : PopInterval) (store : Store)
+    (name : List ℕ) → Ready fields intervals popped store
+    → is_some (interval_named intervals name) ≡ true
+    → is_declared (above fields (scope_of store.variables)) name ≡ true
+known_inner fields intervals popped store name ready known =
+    seen_inner fields (names_of intervals) (scope_of store.variables) name ready.seen
+    (known_named intervals name known)
+
 -- after a part that pops nothing
-pub ready_still : (intervals : Intervals) (popped : PopInterval) (x : Option Counts) (store : Store)
-    → is_some (require_zero x) ≡ true → Ready intervals (advance popped x) store
-    → Ready intervals popped store
-ready_still intervals popped x store e ready =
+pub ready_still : (fields : ℕ) (intervals : Intervals) (popped : PopInterval) (x : Option Counts)
+    (store : Store)
+    → is_some (require_zero x) ≡ true → Ready fields intervals (advance popped x) store
+    → Ready fields intervals popped store
+ready_still fields intervals popped x store e ready =
     let none = nothing_popped x e in
     let within = ready.within in
     record {
@@ -377,59 +407,58 @@ ready_still intervals popped x store e ready =
     }
 
 -- after a part that leaves the variables
-ready_same : (writes : List ℕ → Bool) (intervals : Intervals) (popped : PopInterval)
+ready_same : (fields : ℕ) (writes : List ℕ → Bool) (intervals : Intervals) (popped : PopInterval)
     (x : Option Counts) (before after : Store) → is_some x ≡ true → Fixed intervals writes
-    → Ready intervals popped before → Counted x before.traffic after.traffic
-    → Same writes before.variables after.variables → Ready intervals (advance popped x) after
-ready_same writes intervals popped x before after e fixed ready moves same = record {
-  seen = subst (Seen (names_of intervals)) (sym same.shape) ready.seen;
+    → Ready fields intervals popped before → Counted x before.traffic after.traffic
+    → Same fields writes before.variables after.variables → Ready fields intervals
+    (advance popped x) after
+ready_same fields writes intervals popped x before after e fixed ready moves same = record {
+  seen = subst (Seen fields (names_of intervals)) (sym same.shape) ready.seen;
   holds = holds_same intervals before after
-      (λ name known. same_cells writes before.variables after.variables name same
-      (fixed name known)) ready.holds;
+      (λ name known. same_cells fields writes before.variables after.variables name same
+      (known_inner fields intervals popped before name ready known) (fixed name known)) ready.holds;
   within = within_after before.traffic after.traffic popped x e moves ready.within;
 }
 
-pub ready_value : (port : Port) (e : tree.Expr) (intervals : Intervals) (popped : PopInterval)
+pub ready_value : (setting : Setting) (e : tree.Expr) (intervals : Intervals) (popped : PopInterval)
     (store : Store) → is_some (expr_counts e) ≡ true → Fixed intervals (λ name. expr_writes name e)
-    → Ready intervals popped store → IfOk (value_of port e store)
-    (λ given. Ready intervals (advance popped (expr_counts e)) given.1)
-ready_value port e intervals popped store counted fixed ready =
+    → Ready setting.fields intervals popped store → IfOk (value_of setting e store)
+    (λ given. Ready setting.fields intervals (advance popped (expr_counts e)) given.1)
+ready_value setting e intervals popped store counted fixed ready =
     let writes : List ℕ → Bool = λ name. expr_writes name e in
-    IfOk-weaker (value_of port e store) (λ given. Counted
+    IfOk-weaker (value_of setting e store) (λ given. Counted
     (expr_counts e) store.traffic given.1.traffic
-    × Same writes store.variables given.1.variables) _
-    (λ given h. ready_same writes intervals popped
+    × Same setting.fields writes store.variables given.1.variables) _
+    (λ given h. ready_same setting.fields writes intervals popped
     (expr_counts e) store given.1 counted fixed ready h.0 h.1)
-    (both_ok (value_of port e store) _ _ (value_counts port e store)
-    (value_holds (λ s. Same writes store.variables s.variables) writes
-    (same_holding writes store.variables) port e store (λ name f. f)
-    (same_refl writes store.variables)))
+    (both_ok (value_of setting e store) _ _ (value_counts setting e store)
+    (value_same setting setting.fields (reaches_fields setting) e store))
 
-pub ready_stmt : (port : Port) (s : tree.Stmt) (names : Scope) (intervals : Intervals)
-    (popped : PopInterval) (store : Store) → IsClosedStmt names s
+pub ready_stmt : (setting : Setting) (s : tree.Stmt) (names : Scope) (intervals : Intervals)
+    (popped : PopInterval) (store : Store) → IsPlain names s
     → is_some (stmt_counts (names_of intervals) s) ≡ true
-    → Fixed intervals (λ name. stmt_writes name s) → Ready intervals popped store
-    → IfOk (stmt_done port s store) (Ready (intervals_after intervals s)
+    → Fixed intervals (λ name. stmt_writes name s) → Ready setting.fields intervals popped store
+    → IfOk (stmt_done setting s store) (Ready setting.fields (intervals_after intervals s)
     (advance popped (stmt_counts (names_of intervals) s)))
-ready_stmt port s names intervals popped store closed counted fixed ready =
+ready_stmt setting s names intervals popped store closed counted fixed ready =
     let scope = names_after (scope_of store.variables) s in
-    IfOk-weaker (stmt_done port s store) (λ after. Counted
+    IfOk-weaker (stmt_done setting s store) (λ after. Counted
     (stmt_counts (names_of intervals) s) store.traffic after.traffic
-    × Done (λ name. stmt_writes name s) scope store.variables after.variables) _
+    × Done setting.fields (λ name. stmt_writes name s) scope store.variables after.variables) _
     (λ after h. record {
-      seen = subst (Seen (names_of (intervals_after intervals s))) (sym h.1.exact)
-          (subst (λ l. Seen l scope) (sym (names_after_intervals intervals s))
-          (seen_after s (names_of intervals)
-          (scope_of store.variables) names closed ready.seen));
+      seen = subst (Seen setting.fields (names_of (intervals_after intervals s))) (sym h.1.exact)
+          (subst (λ l. Seen setting.fields l scope) (sym (names_after_intervals intervals s))
+          (seen_after setting.fields s (names_of intervals)
+          (scope_of store.variables) names closed.0 ready.seen));
       holds = λ name. later after h.1 name (known_before intervals s name);
       within = within_after store.traffic after.traffic popped
           (stmt_counts (names_of intervals) s) counted h.0 ready.within;
     })
-    (both_ok (stmt_done port s store) _ _
-    (stmt_counted port s (names_of intervals) names store closed ready.seen)
-    (stmt_keeps port s names store closed))
+    (both_ok (stmt_done setting s store) _ _
+    (stmt_counted setting s (names_of intervals) names store closed ready.seen)
+    (stmt_keeps setting setting.fields (reaches_fields setting) s names store closed))
   where
-    later : (after : Store) → Done (λ name. stmt_writes name s)
+    later : (after : Store) → Done setting.fields (λ name. stmt_writes name s)
         (names_after (scope_of store.variables) s) store.variables after.variables → (name : List ℕ)
         → (is_some (interval_named (intervals_after intervals s) name) ≡ true
         → (is_some (interval_named intervals name) ≡ true) × (shadows name s ≡ false))
@@ -446,7 +475,8 @@ ready_stmt port s names intervals popped store closed counted fixed ready =
             let old = before (ap is_some e) in
             let same : value_in after name ≡ value_in store name =
             ap (λ c. get_or c 0 (pos 0))
-            (done_cells s store.variables after.variables name done
+            (done_cells setting.fields s store.variables after.variables name done
+            (known_inner setting.fields intervals popped store name ready old.0)
             (fixed name old.0) old.1) in
             let was : interval_named intervals name ≡ Some interval =
             sym (interval_after intervals s name old.1) ∙ e in
@@ -454,44 +484,46 @@ ready_stmt port s names intervals popped store closed counted fixed ready =
             (subst (λ r. IfSome r (λ q. Within q (value_in store name))) was (ready.holds name))
 
 -- a statement in a scope of its own
-pub ready_inside : (port : Port) (s : tree.Stmt) (names : Scope) (intervals : Intervals)
-    (popped : PopInterval) (store : Store) → IsClosedStmt names s
+pub ready_inside : (setting : Setting) (s : tree.Stmt) (names : Scope) (intervals : Intervals)
+    (popped : PopInterval) (store : Store) → IsPlain names s
     → is_some (stmt_counts (names_of intervals) s) ≡ true
-    → Fixed intervals (λ name. stmt_writes name s) → Ready intervals popped store
-    → IfOk (inside (stmt_done port s) store)
-    (Ready intervals (advance popped (stmt_counts (names_of intervals) s)))
-ready_inside port s names intervals popped store closed counted fixed ready =
+    → Fixed intervals (λ name. stmt_writes name s) → Ready setting.fields intervals popped store
+    → IfOk (inside (stmt_done setting s) store)
+    (Ready setting.fields intervals (advance popped (stmt_counts (names_of intervals) s)))
+ready_inside setting s names intervals popped store closed counted fixed ready =
     let writes : List ℕ → Bool = λ name. stmt_writes name s in
-    IfOk-weaker (inside (stmt_done port s) store)
+    IfOk-weaker (inside (stmt_done setting s) store)
     (λ after. Counted (stmt_counts (names_of intervals) s) store.traffic after.traffic
-    × Same writes store.variables after.variables) _
-    (λ after h. ready_same writes intervals popped
+    × Same setting.fields writes store.variables after.variables) _
+    (λ after h. ready_same setting.fields writes intervals popped
     (stmt_counts (names_of intervals) s) store after counted fixed ready h.0 h.1)
-    (both_ok (inside (stmt_done port s) store) _ _
-    (inside_counts (stmt_counts (names_of intervals) s) (stmt_done port s) store
-    (stmt_counted port s (names_of intervals) names store closed ready.seen))
-    (inside_same writes writes (stmt_done port s) store (λ name e. e)
-    (IfOk-weaker (stmt_done port s store)
-    (λ after. Done writes (names_after (scope_of store.variables) s) store.variables
-    after.variables) _ (λ after k. k.grown) (stmt_keeps port s names store closed))))
+    (both_ok (inside (stmt_done setting s) store) _ _
+    (inside_counts (stmt_counts (names_of intervals) s) (stmt_done setting s) store
+    (stmt_counted setting s (names_of intervals) names store closed ready.seen))
+    (inside_same setting.fields writes writes (stmt_done setting s) store (λ name e. e)
+    (IfOk-weaker (stmt_done setting s store)
+    (λ after. Done setting.fields writes (names_after (scope_of store.variables) s) store.variables
+    after.variables) _ (λ after k. k.grown) (stmt_keeps setting setting.fields
+    (reaches_fields setting) s names store closed))))
 
 -- a condition
-pub ready_condition : (port : Port) (condition : Option tree.Expr) (intervals : Intervals)
+pub ready_condition : (setting : Setting) (condition : Option tree.Expr) (intervals : Intervals)
     (popped : PopInterval) (store : Store) → is_some (option_counts condition) ≡ true
-    → Fixed intervals (λ name. option_writes name condition) → Ready intervals popped store
-    → IfOk (condition_value port condition store)
-    (λ given. Ready intervals (advance popped (option_counts condition)) given.1)
-ready_condition port None intervals popped store counted fixed ready =
-    ready_same (λ name. false) intervals popped (Some no_items) store store counted
-    (λ name e. refl) ready (stays store.traffic) (same_refl (λ name. false) store.variables)
-ready_condition port (Some condition) intervals popped store counted fixed ready =
-    ready_value port condition intervals popped store counted fixed ready
+    → Fixed intervals (λ name. option_writes name condition)
+    → Ready setting.fields intervals popped store → IfOk (condition_value setting condition store)
+    (λ given. Ready setting.fields intervals (advance popped (option_counts condition)) given.1)
+ready_condition setting None intervals popped store counted fixed ready =
+    ready_same setting.fields (λ name. false) intervals popped (Some no_items) store store counted
+    (λ name e. refl) ready (stays store.traffic) (same_refl setting.fields
+    (λ name. false) store.variables)
+ready_condition setting (Some condition) intervals popped store counted fixed ready =
+    ready_value setting condition intervals popped store counted fixed ready
 
 -- a new variable, whose interval isn't known
-ready_declared : (intervals : Intervals) (popped : PopInterval) (name : List ℕ) (cells : List ℤ)
-    (store : Store) → 1 ≤ length cells → Ready intervals popped store
-    → Ready (record { 0 = name; 1 = None } ∷ intervals) popped (declared_in store name cells)
-ready_declared intervals popped name cells store some ready = record {
+ready_declared : (fields : ℕ) (intervals : Intervals) (popped : PopInterval) (name : List ℕ)
+    (cells : List ℤ) (store : Store) → 1 ≤ length cells → Ready fields intervals popped store
+    → Ready fields (record { 0 = name; 1 = None } ∷ intervals) popped (declared_in store name cells)
+ready_declared fields intervals popped name cells store some ready = record {
   seen = (refl, some, ready.seen);
   holds = λ other. by_test other (bytes_eq name other);
   within = ready.within;
@@ -503,24 +535,25 @@ ready_declared intervals popped name cells store some ready = record {
     by_test other true = tt
     by_test other false = ready.holds other
 
-pub ready_initial : (port : Port) (cells : ℕ) (name : List ℕ) (initial : Option tree.Expr)
+pub ready_initial : (setting : Setting) (cells : ℕ) (name : List ℕ) (initial : Option tree.Expr)
     (intervals : Intervals) (popped : PopInterval) (store : Store) → FitsInitial cells initial
     → is_some (option_counts initial) ≡ true → Fixed intervals (λ n. option_writes n initial)
-    → Ready intervals popped store → IfOk (initial_cells port cells initial store)
-    (λ given. Ready (record { 0 = name; 1 = None } ∷ intervals)
+    → Ready setting.fields intervals popped store → IfOk (initial_cells setting cells initial store)
+    (λ given. Ready setting.fields (record { 0 = name; 1 = None } ∷ intervals)
     (advance popped (option_counts initial)) (declared_in given.1 name given.0))
-ready_initial port cells name None intervals popped store fits counted fixed ready =
-    ready_declared intervals (advance popped (Some no_items)) name (replicate cells (pos 0)) store
-    (omega (arith, length-replicate cells (pos 0)))
-    (ready_same (λ n. false) intervals popped (Some no_items) store store counted
-    (λ n e. refl) ready (stays store.traffic) (same_refl (λ n. false) store.variables))
-ready_initial port cells name (Some initial) intervals popped store fits counted fixed ready =
-    then_ok (value_of port initial store) _
-    (λ given. Ready intervals (advance popped (expr_counts initial)) given.1)
-    (λ given. Ready (record { 0 = name; 1 = None } ∷ intervals)
+ready_initial setting cells name None intervals popped store fits counted fixed ready =
+    ready_declared setting.fields intervals (advance popped (Some no_items)) name
+    (replicate cells (pos 0)) store (omega (arith, length-replicate cells (pos 0)))
+    (ready_same setting.fields (λ n. false) intervals popped (Some no_items) store store counted
+    (λ n e. refl) ready (stays store.traffic) (same_refl setting.fields
+    (λ n. false) store.variables))
+ready_initial setting cells name (Some initial) intervals popped store fits counted fixed ready =
+    then_ok (value_of setting initial store) _
+    (λ given. Ready setting.fields intervals (advance popped (expr_counts initial)) given.1)
+    (λ given. Ready setting.fields (record { 0 = name; 1 = None } ∷ intervals)
     (advance popped (expr_counts initial)) (declared_in given.1 name given.0))
-    (ready_value port initial intervals popped store counted fixed ready)
-    (λ given h. ready_declared intervals (advance popped (expr_counts initial)) name
+    (ready_value setting initial intervals popped store counted fixed ready)
+    (λ given h. ready_declared setting.fields intervals (advance popped (expr_counts initial)) name
     (given.0 ∷ []) given.1 (omega arith) h)
 
 -- what runs in a turn is counted

@@ -16,9 +16,9 @@ use Rattle.strc_base.specs.Results.{result_and_then}
 use Rattle.strc_syntax.specs.Tree as tree
 use Rattle.strc_semantics.specs.declared.fault.Cause.{Cause}
 use Rattle.strc_semantics.specs.Arithmetic.{is_true, truth}
-use Rattle.strc_semantics.specs.Scoping.{Scope, size_of, names_after}
-use Rattle.strc_semantics.specs.Closed.{IsClosedStmt}
-use Rattle.strc_semantics.specs.Firing.{Port, Traffic, Store, value_in, condition_value, turned}
+use Rattle.strc_semantics.specs.Scoping.{Scope, names_after}
+use Rattle.strc_rate.proofs.Unreturned.{IsPlain}
+use Rattle.strc_semantics.specs.Firing.{Setting, Traffic, Store, value_in, condition_value, turned}
 use Rattle.strc_semantics.specs.Firing.{turn_limit, inside, stmt_done}
 use Rattle.strc_rate.proofs.Scopes.{scope_of}
 use Rattle.strc_interval.specs.Loops.{Locals, Loop, value_after, option_writes, stmt_writes}
@@ -30,14 +30,14 @@ use Rattle.strc_rate.specs.Peeks.{PopInterval, in_turns}
 use Rattle.strc_interval.specs.Intervals.{names_of}
 use Rattle.strc_rate.specs.PeeksSafe.{LoopIsSafe}
 use Rattle.strc_rate.proofs.Results.{or_first, or_second, then_ok, both_ok, ok_known, match_by}
-use Rattle.strc_rate.proofs.Keeping.{same_name, Given, Same, same_cells}
+use Rattle.strc_rate.proofs.Keeping.{same_name, Given, Same, same_cells, reaches_fields}
 use Rattle.strc_rate.proofs.Unwritten.{TurnsFree, turned_holds, inside_after, stmt_keeps}
 use Rattle.strc_rate.proofs.LoopParts.{Seen}
-use Rattle.strc_rate.proofs.CountedLoops.{Known, At, turn_at, test_holds, test_ends}
-use Rattle.strc_rate.proofs.CountedMoves.{Counted, one_more_counted}
-use Rattle.strc_rate.proofs.StatementCounts.{Parts, more_turns}
+use Rattle.strc_rate.proofs.CountedLoops.{HasPlace, Known, At, turn_at, test_holds, test_ends}
+use Rattle.strc_rate.proofs.CountedMoves.{Counted, one_more_counted, more_turns}
+use Rattle.strc_rate.proofs.StatementCounts.{Parts}
 use Rattle.strc_rate.proofs.IntervalValues.{Within, Holds, Between, between_up, between_down}
-use Rattle.strc_rate.proofs.Readiness.{Ready, Fixed, within_turns}
+use Rattle.strc_rate.proofs.Readiness.{Ready, Fixed, within_turns, known_inner}
 
 -- ---- loops
 
@@ -224,9 +224,10 @@ turn_writes condition step body name = option_writes name condition
 
 module _ {locals : Locals} {first : tree.Stmt} {condition : Option tree.Expr}
     {step body : tree.Stmt} {loop : Loop} (known : Known locals first condition step body loop)
-    (port : Port) (names scope : Scope) (closed : IsClosedStmt names body)
-    (closed_step : IsClosedStmt names step) (sized : 1 ≤ size_of scope loop.name)
-    (x : Option Counts) (parts : Parts scope x (inside (stmt_done port body))) (begun : Store) where
+    (setting : Setting) (names scope : Scope) (closed : IsPlain names body)
+    (closed_step : IsPlain names step) (sized : HasPlace setting.fields scope loop.name)
+    (x : Option Counts) (parts : Parts scope x (inside (stmt_done setting body)))
+    (begun : Store) where
   abbrev pub Moved : ℕ → Traffic → Type 0
   Moved t traffic = Counted (repeated t x) begun.traffic traffic
 
@@ -236,61 +237,64 @@ module _ {locals : Locals} {first : tree.Stmt} {condition : Option tree.Expr}
 
   abbrev pub moves_on : (t : ℕ) (s : Store) → t < loop.turns → scope_of s.variables ≡ scope
       → value_in s loop.name ≡ value_after loop t → Moved t s.traffic
-      → IfOk (inside (stmt_done port body) s) (λ after. Moved (t + 1) after.traffic)
+      → IfOk (inside (stmt_done setting body) s) (λ after. Moved (t + 1) after.traffic)
   moves_on t s lt shape value so_far =
-      IfOk-weaker (inside (stmt_done port body) s)
+      IfOk-weaker (inside (stmt_done setting body) s)
       (λ after. Counted x s.traffic after.traffic × (scope_of after.variables ≡ scope)) _
       (λ after h. one_more_counted t begun.traffic s.traffic after.traffic x so_far h.0)
       (parts s shape)
 
   -- the store where a turn begins: the variable has moved, and what no turn writes is as it was
   pub record InTurn (t : ℕ) (store : Store) : Type 0 where
-    pub at : At known port names scope closed sized Moved freed moves_on t store
-    pub same : Same (turn_writes condition step body) begun.variables store.variables
+    pub at : At known setting names scope closed sized Moved freed moves_on t store
+    pub same : Same setting.fields (turn_writes condition step body) begun.variables store.variables
 
   pub next_turn : (t : ℕ) (store : Store) → t < loop.turns → InTurn t store
-      → IfOk (result_and_then (inside (stmt_done port body) store) (inside (stmt_done port step)))
-      (InTurn (t + 1))
+      → IfOk (result_and_then (inside (stmt_done setting body) store)
+      (inside (stmt_done setting step))) (InTurn (t + 1))
   next_turn t store lt here =
       let writes : List ℕ → Bool = turn_writes condition step body in
-      IfOk-weaker (result_and_then (inside (stmt_done port body) store)
-      (inside (stmt_done port step)))
-      (λ after. At known port names scope closed sized Moved freed moves_on (t + 1) after
-      × Same writes begun.variables after.variables) _
+      IfOk-weaker (result_and_then (inside (stmt_done setting body) store)
+      (inside (stmt_done setting step)))
+      (λ after. At known setting names scope closed sized Moved freed moves_on (t + 1) after
+      × Same setting.fields writes begun.variables after.variables) _
       (λ after h. record { at = h.0; same = h.1 })
-      (both_ok (result_and_then (inside (stmt_done port body) store) (inside (stmt_done port step)))
-      _ _ (turn_at known port names scope closed sized Moved freed moves_on t store lt here.at)
-      (then_ok (inside (stmt_done port body) store) (inside (stmt_done port step))
-      (λ middle. Same writes begun.variables middle.variables)
-      (λ after. Same writes begun.variables after.variables)
-      (inside_after writes (λ name. stmt_writes name body)
-      (names_after (scope_of store.variables) body) begun.variables (stmt_done port body) store
+      (both_ok (result_and_then (inside (stmt_done setting body) store)
+      (inside (stmt_done setting step)))
+      _ _ (turn_at known setting names scope closed sized Moved freed moves_on t store lt here.at)
+      (then_ok (inside (stmt_done setting body) store) (inside (stmt_done setting step))
+      (λ middle. Same setting.fields writes begun.variables middle.variables)
+      (λ after. Same setting.fields writes begun.variables after.variables)
+      (inside_after setting.fields writes (λ name. stmt_writes name body)
+      (names_after (scope_of store.variables) body) begun.variables (stmt_done setting body) store
       (λ name e. or_second (stmt_writes name step) _
       (or_second (option_writes name condition) _ e))
-      (stmt_keeps port body names store closed) here.same)
-      (λ middle h. inside_after writes (λ name. stmt_writes name step)
-      (names_after (scope_of middle.variables) step) begun.variables (stmt_done port step) middle
+      (stmt_keeps setting setting.fields (reaches_fields setting) body names store closed)
+      here.same) (λ middle h. inside_after setting.fields writes (λ name. stmt_writes name step)
+      (names_after (scope_of middle.variables) step) begun.variables (stmt_done setting step) middle
       (λ name e. or_first (stmt_writes name step) _
       (or_second (option_writes name condition) _ e))
-      (stmt_keeps port step names middle closed_step) h)))
+      (stmt_keeps setting setting.fields (reaches_fields setting) step names middle closed_step)
+      h)))
 
   -- what is known in a turn
   pub ready_turn : (intervals : Intervals) (popped : PopInterval) (t : ℕ) (store : Store)
       → t < loop.turns → is_some x ≡ true → Fixed intervals (turn_writes condition step body)
-      → Ready intervals popped begun → InTurn t store
-      → Ready (with_interval intervals loop.name (turns_interval loop))
+      → Ready setting.fields intervals popped begun → InTurn t store
+      → Ready setting.fields (with_interval intervals loop.name (turns_interval loop))
       (in_turns popped loop.turns x) store
   ready_turn intervals popped t store lt counted fixed ready here = record {
-    seen = subst (λ l. Seen l (scope_of store.variables))
+    seen = subst (λ l. Seen setting.fields l (scope_of store.variables))
         (sym (names_with intervals loop.name (turns_interval loop)))
-        (subst (Seen (names_of intervals)) (sym here.same.shape) ready.seen);
+        (subst (Seen setting.fields (names_of intervals)) (sym here.same.shape) ready.seen);
     holds =
         holds_with intervals loop.name (turns_interval loop) store
         (subst (Within (turns_interval loop)) (sym here.at.value) (turn_within loop t lt))
         (λ name. kept name (interval_named intervals name)
         (λ e. ap (λ c. get_or c 0 (pos 0))
-        (same_cells (turn_writes condition step body) begun.variables store.variables name
-        here.same (fixed name e))) (ready.holds name));
+        (same_cells setting.fields (turn_writes condition step body) begun.variables store.variables
+        name here.same (known_inner setting.fields intervals popped begun name ready e)
+        (fixed name e))) (ready.holds name));
     within = within_turns begun.traffic store.traffic popped t loop.turns x counted
         (omega arith) here.at.so_far ready.within;
   }
@@ -306,12 +310,12 @@ module _ {locals : Locals} {first : tree.Stmt} {condition : Option tree.Expr}
   pub counted_safe : (test_safe turn_safe : Store → Type 0) → ((store : Store) → test_safe store)
       → ((t : ℕ) (store : Store) → t < loop.turns → InTurn t store → turn_safe store)
       → InTurn 0 begun → LoopIsSafe (suc turn_limit) test_safe turn_safe
-      (condition_value port condition) (λ turn. result_and_then (inside (stmt_done port body) turn)
-      (inside (stmt_done port step))) begun
+      (condition_value setting condition) (λ turn. result_and_then
+      (inside (stmt_done setting body) turn) (inside (stmt_done setting step))) begun
   counted_safe test_safe turn_safe tests safe here =
-      turns_safe InTurn loop.turns test_safe turn_safe (condition_value port condition)
-      (λ turn. result_and_then (inside (stmt_done port body) turn)
-      (inside (stmt_done port step)))
+      turns_safe InTurn loop.turns test_safe turn_safe (condition_value setting condition)
+      (λ turn. result_and_then (inside (stmt_done setting body) turn)
+      (inside (stmt_done setting step)))
       (λ t s n h. record {
         at = record {
           shape = h.at.shape;
@@ -321,6 +325,6 @@ module _ {locals : Locals} {first : tree.Stmt} {condition : Option tree.Expr}
         };
         same = h.same;
       })
-      tests safe (λ t s lt h. test_holds known port s t h.at.value lt)
-      (λ s h. test_ends known port s loop.turns h.at.value refl) next_turn
+      tests safe (λ t s lt h. test_holds known setting s t h.at.value lt)
+      (λ s h. test_ends known setting s loop.turns h.at.value refl) next_turn
       (suc turn_limit) 0 begun (omega arith) here

@@ -1,6 +1,6 @@
 -- A closed peek never faults, in any firing of a filter whose rates are accepted.
 use Rattle.std.proofs.Common.{◌≡◌, refl, sym, ap, subst, ◌∙◌, ℕ, suc, ◌+◌, ◌≤◌, Bool, true, List}
-use Rattle.std.proofs.Common.{[], ◌∷◌, ◌++◌, length}
+use Rattle.std.proofs.Common.{false, [], ◌∷◌, ◌++◌, length}
 use Rattle.std.proofs.Common.{Option, Some, None, arith}
 use Rattle.std.specs.Prelude.{bytes_eq, is_some}
 use Rattle.std.specs.Option.{IfSome}
@@ -10,9 +10,11 @@ use Rattle.strc_base.specs.Results.{result_and_then}
 use Rattle.strc_syntax.specs.Tree as tree
 use Rattle.strc_semantics.specs.Arithmetic.{is_true}
 use Rattle.strc_semantics.specs.Scoping.{Scope, cells_of, size_of, names_after}
-use Rattle.strc_semantics.specs.Closed.{AreClosedVariables, IsClosedStmt, AreClosed}
-use Rattle.strc_semantics.specs.Firing.{Port, Store, cells_named, value_of, initial_cells}
+use Rattle.strc_semantics.specs.Closed.{AreClosedVariables}
+use Rattle.strc_semantics.specs.Firing.{Setting, Store, cells_named, value_of, initial_cells}
 use Rattle.strc_semantics.specs.Firing.{declared_in, condition_value, turn_limit, inside, stmt_done}
+use Rattle.strc_semantics.specs.Firing.{unless_returned, test_unless_returned}
+use Rattle.strc_rate.proofs.Unreturned.{IsPlain, ArePlain, plain_sides, plain_parts, plain_then}
 use Rattle.strc_rate.proofs.Scopes.{scope_of}
 use Rattle.strc_interval.specs.Constant.{constant}
 use Rattle.strc_interval.specs.Loops.{Locals, Loop, locals_after, counted_loop, shadows}
@@ -34,7 +36,7 @@ use Rattle.strc_rate.proofs.Keeping.{same_refl}
 use Rattle.strc_rate.proofs.Unwritten.{TurnsFree, unless_shadowed}
 use Rattle.strc_rate.proofs.LoopTurns.{no_moves}
 use Rattle.strc_rate.proofs.LoopParts.{constant_sound, cells_sized, Seen}
-use Rattle.strc_rate.proofs.CountedLoops.{HasValue, Known, loop_known}
+use Rattle.strc_rate.proofs.CountedLoops.{HasValue, HasPlace, Known, loop_known}
 use Rattle.strc_rate.proofs.CountedMoves.{stays}
 use Rattle.strc_rate.proofs.StatementCounts.{Parts, inside_parts, begins_by, stmt_counted}
 use Rattle.strc_rate.proofs.Readiness.{Ready, Fixed, both_first, both_second, side_some}
@@ -49,28 +51,33 @@ use Rattle.strc_rate.proofs.EachEntry.{Stand, stand_first, stand_after}
 use Rattle.strc_rate.proofs.EachEntry.{stand_chosen, stand_other, stand_turn, expr_entries}
 use Rattle.strc_rate.proofs.EachEntry.{option_entries, stmt_entries}
 
-option_safe : (window : ℕ) (port : Port) → IsWhole window port → (entries : List Bool)
+option_safe : (window : ℕ) (setting : Setting) → IsWhole window setting.port → (entries : List Bool)
     (value : Option tree.Expr) (intervals : Intervals) (popped : PopInterval) (place : ℕ)
     (store : Store) → is_some (option_counts value) ≡ true
-    → Fixed intervals (λ name. option_writes name value) → Ready intervals popped store
+    → Fixed intervals (λ name. option_writes name value)
+    → Ready setting.fields intervals popped store
     → Stand window entries place (option_sites intervals popped value)
-    → OptionIsSafe port entries place value store
-option_safe window port whole entries None intervals popped place store counted fixed ready stand =
-    tt
-option_safe window port whole entries (Some value) intervals popped place store counted fixed ready
+    → OptionIsSafe setting entries place value store
+option_safe window setting whole entries None intervals popped place store counted fixed ready
     stand =
-    expr_safe window port whole entries value intervals popped place store counted fixed ready stand
+    tt
+option_safe window setting whole entries (Some value) intervals popped place store counted fixed
+    ready stand =
+    expr_safe window setting whole entries value intervals popped place store counted fixed ready
+    stand
 
-variables_safe : (window : ℕ) (port : Port) → IsWhole window port → (entries : List Bool)
+variables_safe : (window : ℕ) (setting : Setting) → IsWhole window setting.port
+    → (entries : List Bool)
     (cells : ℕ) (variables : List tree.Variable) (names : Scope) (intervals : Intervals)
     (popped : PopInterval) (place : ℕ) (store : Store) → AreClosedVariables names cells variables
     → is_some (variables_counts variables) ≡ true
-    → Fixed intervals (λ name. variables_write name variables) → Ready intervals popped store
+    → Fixed intervals (λ name. variables_write name variables)
+    → Ready setting.fields intervals popped store
     → Stand window entries place (variables_sites intervals popped variables)
-    → VariablesAreSafe port entries place cells variables store
-variables_safe window port whole entries cells [] names intervals popped place store closed counted
-    fixed ready stand = tt
-variables_safe window port whole entries cells (first ∷ rest) names intervals popped place store
+    → VariablesAreSafe setting entries place cells variables store
+variables_safe window setting whole entries cells [] names intervals popped place store closed
+    counted fixed ready stand = tt
+variables_safe window setting whole entries cells (first ∷ rest) names intervals popped place store
     closed counted fixed ready stand =
     let inner : Intervals = record { 0 = first.name; 1 = None } ∷ intervals in
     let later = advance popped (option_counts first.initial) in
@@ -81,11 +88,11 @@ variables_safe window port whole entries cells (first ∷ rest) names intervals 
     let first_fixed : Fixed intervals (λ name. option_writes name first.initial) =
     λ n e. or_first (option_writes n first.initial) _ (fixed n e) in
     let only = first ∷ [] in (
-      option_safe window port whole entries first.initial intervals popped place store first_counted
-          first_fixed ready (stand_first window entries place sites sites_rest stand),
-      IfOk-weaker (initial_cells port cells first.initial store)
-          (λ given. Ready inner later (declared_in given.1 first.name given.0)) _
-          (λ given h. variables_safe window port whole entries cells rest
+      option_safe window setting whole entries first.initial intervals popped place store
+          first_counted first_fixed ready (stand_first window entries place sites sites_rest stand),
+      IfOk-weaker (initial_cells setting cells first.initial store)
+          (λ given. Ready setting.fields inner later (declared_in given.1 first.name given.0)) _
+          (λ given h. variables_safe window setting whole entries cells rest
           (record { 0 = first.name; 1 = cells } ∷ names) inner later
           (place + length (peeks_of_option first.initial))
           (declared_in given.1 first.name given.0) closed.2 rest_counted
@@ -95,12 +102,13 @@ variables_safe window port whole entries cells (first ∷ rest) names intervals 
           (or_first (bytes_eq first.name n) _ before.1)) h
           (stand_after window entries place sites sites_rest (peeks_of_option first.initial)
           (option_entries first.initial intervals popped) stand))
-          (ready_initial port cells first.name first.initial intervals popped store closed.1
+          (ready_initial setting cells first.name first.initial intervals popped store closed.1
           first_counted first_fixed ready),
     )
 
-ready_free : (intervals : Intervals) (popped : PopInterval) → TurnsFree (Ready intervals popped)
-ready_free intervals popped store n ready =
+ready_free : (fields : ℕ) (intervals : Intervals) (popped : PopInterval) → TurnsFree
+    (Ready fields intervals popped)
+ready_free fields intervals popped store n ready =
     record {
       seen = ready.seen;
       holds = ready.holds;
@@ -119,39 +127,44 @@ fixed_inner intervals first condition step body fixed name known =
     (or_second (stmt_writes name first) _ (fixed name before.0)) before.1
 
 -- a statement that is safe wherever it is counted
-abbrev IsSafe : (window : ℕ) → Port → (entries : List Bool) → tree.Stmt → Type 0
-IsSafe window port entries s =
+abbrev IsSafe : (window : ℕ) → Setting → (entries : List Bool) → tree.Stmt → Type 0
+IsSafe window setting entries s =
     (intervals : Intervals) (popped : PopInterval) (place : ℕ) (store : Store)
     → is_some (stmt_counts (names_of intervals) s) ≡ true
-    → Fixed intervals (λ name. stmt_writes name s) → Ready intervals popped store
+    → Fixed intervals (λ name. stmt_writes name s) → Ready setting.fields intervals popped store
     → Stand window entries place (stmt_sites intervals popped s)
-    → StmtIsSafe port entries place s store
+    → StmtIsSafe setting entries place s store
 
 -- a loop whose parts have these numbers is safe
-abbrev ForIsSafe : Port → (entries : List Bool) → (test_place step_place body_place : ℕ)
-    → Option tree.Expr → (step body : tree.Stmt) → Store → Type 0
-ForIsSafe port entries test_place step_place body_place condition step body =
-    LoopIsSafe (suc turn_limit) (λ s. OptionIsSafe port entries test_place condition s)
-    (λ s. StmtIsSafe port entries body_place body s
-    × IfOk (inside (stmt_done port body) s)
-    (λ after. StmtIsSafe port entries step_place step after)) (condition_value port condition)
-    (λ turn. result_and_then (inside (stmt_done port body) turn) (inside (stmt_done port step)))
+abbrev ForIsSafe : (returns : Bool) → Setting → (entries : List Bool)
+    → (test_place step_place body_place : ℕ) → Option tree.Expr → (step body : tree.Stmt) → Store
+    → Type 0
+ForIsSafe returns setting entries test_place step_place body_place condition step body =
+    LoopIsSafe (suc turn_limit) (λ s. OptionIsSafe setting entries test_place condition s)
+    (λ s. StmtIsSafe setting entries body_place body s
+    × IfOk (inside (stmt_done setting body) s)
+    (λ after. StmtIsSafe setting entries step_place step after))
+    (test_unless_returned returns (condition_value setting condition))
+    (λ turn. result_and_then (inside (stmt_done setting body) turn)
+    (unless_returned returns (inside (stmt_done setting step))))
 
 -- the turns of a `for` that isn't a counted loop: nothing is popped in them
-other_turns_safe : (window : ℕ) (port : Port) → IsWhole window port → (entries : List Bool)
+other_turns_safe : (window : ℕ) (setting : Setting) → IsWhole window setting.port
+    → (entries : List Bool)
     (condition : Option tree.Expr) (step body : tree.Stmt) (names : Scope) (intervals : Intervals)
     (popped : PopInterval) (test_place step_place body_place : ℕ) (begun : Store)
-    → IsClosedStmt names step → IsClosedStmt names body
+    → IsPlain names step → IsPlain names body
     → is_some (sequence (require_zero (option_counts condition))
     (sequence (require_zero (stmt_counts (names_of intervals) step))
     (require_zero (stmt_counts (names_of intervals) body)))) ≡ true
-    → Fixed intervals (turn_writes condition step body) → Ready intervals popped begun
+    → Fixed intervals (turn_writes condition step body)
+    → Ready setting.fields intervals popped begun
     → Stand window entries test_place (option_sites intervals popped condition)
     → Stand window entries step_place (stmt_sites intervals popped step)
     → Stand window entries body_place (stmt_sites intervals popped body)
-    → IsSafe window port entries step → IsSafe window port entries body
-    → ForIsSafe port entries test_place step_place body_place condition step body begun
-other_turns_safe window port whole entries condition step body names intervals popped test_place
+    → IsSafe window setting entries step → IsSafe window setting entries body
+    → ForIsSafe false setting entries test_place step_place body_place condition step body begun
+other_turns_safe window setting whole entries condition step body names intervals popped test_place
     step_place body_place begun closed_step closed_body counted fixed ready stand_test stand_step
     stand_body safe_step safe_body =
     let x = option_counts condition in
@@ -169,60 +182,63 @@ other_turns_safe window port whole entries condition step body names intervals p
     let fixed_body : Fixed intervals (λ name. stmt_writes name body) =
     λ n e. or_second (stmt_writes n step) _
     (or_second (option_writes n condition) _ (fixed n e)) in
-    let past_body : (s : Store) → Ready intervals popped s
-    → IfOk (inside (stmt_done port body) s) (Ready intervals popped) =
-    λ s r. IfOk-weaker (inside (stmt_done port body) s) (Ready intervals (advance popped z)) _
-    (λ after h. ready_still intervals popped z after none_z h)
-    (ready_inside port body names intervals popped s closed_body
+    let past_body : (s : Store) → Ready setting.fields intervals popped s
+    → IfOk (inside (stmt_done setting body) s) (Ready setting.fields intervals popped) =
+    λ s r. IfOk-weaker (inside (stmt_done setting body) s)
+    (Ready setting.fields intervals (advance popped z)) _
+    (λ after h. ready_still setting.fields intervals popped z after none_z h)
+    (ready_inside setting body names intervals popped s closed_body
     (nothing_some z none_z) fixed_body r) in
-    loop_safe (Ready intervals popped) (λ s. OptionIsSafe port entries test_place condition s)
-    (λ s. StmtIsSafe port entries body_place body s
-    × IfOk (inside (stmt_done port body) s)
-    (λ after. StmtIsSafe port entries step_place step after))
-    (condition_value port condition) (λ turn. result_and_then
-    (inside (stmt_done port body) turn) (inside (stmt_done port step)))
-    (ready_free intervals popped)
-    (λ s r. option_safe window port whole entries condition intervals popped test_place s
+    loop_safe (Ready setting.fields intervals popped)
+    (λ s. OptionIsSafe setting entries test_place condition s)
+    (λ s. StmtIsSafe setting entries body_place body s
+    × IfOk (inside (stmt_done setting body) s)
+    (λ after. StmtIsSafe setting entries step_place step after))
+    (condition_value setting condition) (λ turn. result_and_then
+    (inside (stmt_done setting body) turn) (inside (stmt_done setting step)))
+    (ready_free setting.fields intervals popped)
+    (λ s r. option_safe window setting whole entries condition intervals popped test_place s
     (nothing_some x none_x) fixed_condition r stand_test)
     (λ s r. (
       safe_body intervals popped body_place s (nothing_some z none_z) fixed_body r stand_body,
-      IfOk-weaker (inside (stmt_done port body) s) (Ready intervals popped) _
+      IfOk-weaker (inside (stmt_done setting body) s) (Ready setting.fields intervals popped) _
           (λ after h. safe_step intervals popped step_place after
           (nothing_some y none_y) fixed_step h stand_step)
           (past_body s r),
     ))
-    (λ s r. IfOk-weaker (condition_value port condition s)
-    (λ given. Ready intervals (advance popped x) given.1) _
-    (λ given h. ready_still intervals popped x given.1 none_x h)
-    (ready_condition port condition intervals popped s (nothing_some x none_x) fixed_condition r))
-    (λ s r.
-    then_ok (inside (stmt_done port body) s) (inside (stmt_done port step)) (Ready intervals popped)
-    (Ready intervals popped) (past_body s r)
-    (λ middle h. IfOk-weaker (inside (stmt_done port step) middle)
-    (Ready intervals (advance popped y)) _
-    (λ after k. ready_still intervals popped y after none_y k)
-    (ready_inside port step names intervals popped middle closed_step
+    (λ s r. IfOk-weaker (condition_value setting condition s)
+    (λ given. Ready setting.fields intervals (advance popped x) given.1) _
+    (λ given h. ready_still setting.fields intervals popped x given.1 none_x h)
+    (ready_condition setting condition intervals popped s
+    (nothing_some x none_x) fixed_condition r)) (λ s r.
+    then_ok (inside (stmt_done setting body) s) (inside (stmt_done setting step))
+    (Ready setting.fields intervals popped) (Ready setting.fields intervals popped) (past_body s r)
+    (λ middle h. IfOk-weaker (inside (stmt_done setting step) middle)
+    (Ready setting.fields intervals (advance popped y)) _
+    (λ after k. ready_still setting.fields intervals popped y after none_y k)
+    (ready_inside setting step names intervals popped middle closed_step
     (nothing_some y none_y) fixed_step h)))
     (suc turn_limit) begun ready
 
 -- the turns of a counted loop
-counted_turns_safe : (window : ℕ) (port : Port) (entries : List Bool) (locals : Locals)
+counted_turns_safe : (window : ℕ) (setting : Setting) (entries : List Bool) (locals : Locals)
     (first : tree.Stmt) (condition : Option tree.Expr) (step body : tree.Stmt) (loop : Loop)
     (names : Scope) (intervals : Intervals) (popped : PopInterval)
     (test_place step_place body_place : ℕ) (begun : Store)
     → Known locals first condition step body loop → HasFreeParts condition step
-    → HasValue loop.name loop.start begun
-    → IsClosedStmt names step → IsClosedStmt names body
+    → HasValue setting.fields loop.name loop.start begun
+    → IsPlain names step → IsPlain names body
     → is_some (repeated loop.turns (stmt_counts (names_of intervals) body)) ≡ true
-    → Fixed intervals (turn_writes condition step body) → Ready intervals popped begun
+    → Fixed intervals (turn_writes condition step body)
+    → Ready setting.fields intervals popped begun
     → Stand window entries body_place (some_turns loop.turns
     (stmt_sites (with_interval intervals loop.name (turns_interval loop))
     (in_turns popped loop.turns (stmt_counts (names_of intervals) body)) body) (peeks_of_stmt body))
-    → IsSafe window port entries body
-    → ForIsSafe port entries test_place step_place body_place condition step body begun
-counted_turns_safe window port entries locals first condition step body loop names intervals popped
-    test_place step_place body_place begun known free begins closed_step closed_body counted fixed
-    ready stand safe_body =
+    → IsSafe window setting entries body
+    → ForIsSafe false setting entries test_place step_place body_place condition step body begun
+counted_turns_safe window setting entries locals first condition step body loop names intervals
+    popped test_place step_place body_place begun known free begins closed_step closed_body counted
+    fixed ready stand safe_body =
     let z = stmt_counts (names_of intervals) body in
     let within = with_interval intervals loop.name (turns_interval loop) in
     let turning = in_turns popped loop.turns z in
@@ -230,20 +246,20 @@ counted_turns_safe window port entries locals first condition step body loop nam
     let size : length (cells_named begun.variables loop.name) ≡ size_of scope loop.name =
     cells_sized begun.variables loop.name in
     let some : 1 ≤ length (cells_named begun.variables loop.name) = begins.some in
-    let sized : 1 ≤ size_of scope loop.name = omega arith in
-    let parts : Parts scope z (inside (stmt_done port body)) =
-    inside_parts port body names scope z closed_body
-    (λ s is. stmt_counted port body (names_of intervals) names s closed_body
-    (subst (Seen (names_of intervals)) (sym is) ready.seen)) in
+    let sized : HasPlace setting.fields scope loop.name = (omega arith, begins.inner) in
+    let parts : Parts scope z (inside (stmt_done setting body)) =
+    inside_parts setting body names scope z closed_body
+    (λ s is. stmt_counted setting body (names_of intervals) names s closed_body
+    (subst (Seen setting.fields (names_of intervals)) (sym is) ready.seen)) in
     let fixed_body : Fixed intervals (λ name. stmt_writes name body) =
     λ n e. or_second (stmt_writes n step) _
     (or_second (option_writes n condition) _ (fixed n e)) in
-    counted_safe known port names scope closed_body closed_step sized z parts begun
-    (λ s. OptionIsSafe port entries test_place condition s)
-    (λ s. StmtIsSafe port entries body_place body s
-    × IfOk (inside (stmt_done port body) s)
-    (λ after. StmtIsSafe port entries step_place step after))
-    (λ s. option_peekless port entries condition test_place s free.0)
+    counted_safe known setting names scope closed_body closed_step sized z parts begun
+    (λ s. OptionIsSafe setting entries test_place condition s)
+    (λ s. StmtIsSafe setting entries body_place body s
+    × IfOk (inside (stmt_done setting body) s)
+    (λ after. StmtIsSafe setting entries step_place step after))
+    (λ s. option_peekless setting entries condition test_place s free.0)
     (λ t s lt here.
     let some_body = repeated_some loop.turns t z lt counted in (
       safe_body within turning body_place s
@@ -251,13 +267,13 @@ counted_turns_safe window port entries locals first condition step body loop nam
           (sym (names_with intervals loop.name (turns_interval loop))) some_body)
           (fixed_with intervals loop.name (turns_interval loop)
           (λ name. stmt_writes name body) known.unwritten fixed_body)
-          (ready_turn known port names scope closed_body closed_step sized z parts begun intervals
-          popped t s lt some_body fixed ready here)
+          (ready_turn known setting names scope closed_body closed_step sized z parts begun
+          intervals popped t s lt some_body fixed ready here)
           (stand_turn window entries body_place loop.turns t (stmt_sites within turning body)
           (peeks_of_stmt body) lt stand),
-      IfOk-weaker (inside (stmt_done port body) s) (λ after. Unit {0}) _
-          (λ after any. free.1.1 port entries step_place after)
-          (any_ok (inside (stmt_done port body) s)),
+      IfOk-weaker (inside (stmt_done setting body) s) (λ after. Unit {0}) _
+          (λ after any. free.1.1 setting entries step_place after)
+          (any_ok (inside (stmt_done setting body) s)),
     ))
     (record {
       at = record {
@@ -267,28 +283,30 @@ counted_turns_safe window port entries locals first condition step body loop nam
         so_far = stays begun.traffic;
       };
       same =
-          same_refl _ begun.variables;
+          same_refl setting.fields _ begun.variables;
     })
 
-for_turns_safe : (window : ℕ) (port : Port) → IsWhole window port → (entries : List Bool)
+for_turns_safe : (window : ℕ) (setting : Setting) → IsWhole window setting.port
+    → (entries : List Bool)
     (locals : Locals) (first : tree.Stmt) (condition : Option tree.Expr) (step body : tree.Stmt)
     (reported : Option Loop) (names : Scope) (intervals : Intervals) (popped : PopInterval)
     (place : ℕ) (begun : Store) → IfSome reported (λ loop. HasFreeParts condition step)
     → IfSome reported (λ loop. Known locals first condition step body loop
-    × HasValue loop.name loop.start begun) → IsClosedStmt names step → IsClosedStmt names body
-    → is_some (turns_counts reported (option_counts condition)
+    × HasValue setting.fields loop.name loop.start begun) → IsPlain names step
+    → IsPlain names body → is_some (turns_counts reported (option_counts condition)
     (stmt_counts (names_of intervals) step)
     (stmt_counts (names_of intervals) body)) ≡ true
-    → Fixed intervals (turn_writes condition step body) → Ready intervals popped begun
+    → Fixed intervals (turn_writes condition step body)
+    → Ready setting.fields intervals popped begun
     → Stand window entries place (turns_sites reported (option_sites intervals popped condition
     ++ (stmt_sites intervals popped step ++ stmt_sites intervals popped body))
     (λ loop. stmt_sites (with_interval intervals loop.name (turns_interval loop))
     (in_turns popped loop.turns (stmt_counts (names_of intervals) body)) body) (peeks_of_stmt body))
-    → IsSafe window port entries step → IsSafe window port entries body
-    → ForIsSafe port entries place (place + length (peeks_of_option condition))
+    → IsSafe window setting entries step → IsSafe window setting entries body
+    → ForIsSafe false setting entries place (place + length (peeks_of_option condition))
     (place + length (peeks_of_option condition) + length (peeks_of_stmt step)) condition step body
     begun
-for_turns_safe window port whole entries locals first condition step body None names intervals
+for_turns_safe window setting whole entries locals first condition step body None names intervals
     popped place begun free known closed_step closed_body counted fixed ready stand safe_step
     safe_body =
     let tested = option_sites intervals popped condition in
@@ -297,13 +315,13 @@ for_turns_safe window port whole entries locals first condition step body None n
     let step_place = place + length (peeks_of_option condition) in
     let rest = stand_after window entries place tested (stepped ++ run) (peeks_of_option condition)
     (option_entries condition intervals popped) stand in
-    other_turns_safe window port whole entries condition step body names intervals popped place
+    other_turns_safe window setting whole entries condition step body names intervals popped place
     step_place (step_place + length (peeks_of_stmt step)) begun closed_step closed_body counted
     fixed ready (stand_first window entries place tested (stepped ++ run) stand)
     (stand_first window entries step_place stepped run rest)
     (stand_after window entries step_place stepped run (peeks_of_stmt step)
     (stmt_entries step intervals popped) rest) safe_step safe_body
-for_turns_safe window port whole entries locals first condition step body (Some loop) names
+for_turns_safe window setting whole entries locals first condition step body (Some loop) names
     intervals popped place begun free known closed_step closed_body counted fixed ready stand
     safe_step safe_body =
     let step_place = place + length (peeks_of_option condition) in
@@ -311,7 +329,7 @@ for_turns_safe window port whole entries locals first condition step body (Some 
     let no_tests : length (peeks_of_option condition) ≡ 0 = ap length free.0 in
     let no_steps : length (peeks_of_stmt step) ≡ 0 = ap length free.1.0 in
     let same : place ≡ body_place = omega arith in
-    counted_turns_safe window port entries locals first condition step body loop names intervals
+    counted_turns_safe window setting entries locals first condition step body loop names intervals
     popped place step_place body_place begun known.0 free known.1 closed_step closed_body counted
     fixed ready
     (subst (λ n. Stand window entries n (some_turns loop.turns
@@ -321,34 +339,37 @@ for_turns_safe window port whole entries locals first condition step body (Some 
 
 mutual
   -- each closed peek that a statement runs finds its item
-  pub stmt_safe : (window : ℕ) (port : Port) → IsWhole window port → (entries : List Bool)
+  pub stmt_safe : (window : ℕ) (setting : Setting) → IsWhole window setting.port
+      → (entries : List Bool)
       (s : tree.Stmt) (names : Scope) (intervals : Intervals) (popped : PopInterval) (place : ℕ)
-      (store : Store) → IsClosedStmt names s → is_some (stmt_counts (names_of intervals) s) ≡ true
-      → Fixed intervals (λ name. stmt_writes name s) → Ready intervals popped store
+      (store : Store) → IsPlain names s → is_some (stmt_counts (names_of intervals) s) ≡ true
+      → Fixed intervals (λ name. stmt_writes name s) → Ready setting.fields intervals popped store
       → Stand window entries place (stmt_sites intervals popped s)
-      → StmtIsSafe port entries place s store
-  stmt_safe window port whole entries tree.Empty names intervals popped place store closed counted
-      fixed ready stand = tt
-  stmt_safe window port whole entries (tree.Compose statement) names intervals popped place store
-      closed counted fixed ready stand = tt
-  stmt_safe window port whole entries (tree.Return value) names intervals popped place store closed
+      → StmtIsSafe setting entries place s store
+  stmt_safe window setting whole entries tree.Empty names intervals popped place store closed
       counted fixed ready stand = tt
-  stmt_safe window port whole entries (tree.Block body) names intervals popped place store closed
-      counted fixed ready stand = stmts_safe window port whole entries body names intervals popped
-      place store closed counted fixed ready stand
-  stmt_safe window port whole entries (tree.Declare kind variables) names intervals popped place
-      store closed counted fixed ready stand = variables_safe window port whole entries
-      (cells_of kind) variables names intervals popped place store closed counted fixed ready stand
-  stmt_safe window port whole entries (tree.Evaluate value) names intervals popped place store
+  stmt_safe window setting whole entries (tree.Compose statement) names intervals popped place store
+      closed counted fixed ready stand = tt
+  stmt_safe window setting whole entries (tree.Return value) names intervals popped place store
       closed counted fixed ready stand =
-      expr_safe window port whole entries value intervals popped place store counted fixed ready
+      let returned : true ≡ false = closed.1 in absurd (cc)
+  stmt_safe window setting whole entries (tree.Block body) names intervals popped place store closed
+      counted fixed ready stand = stmts_safe window setting whole entries body names intervals
+      popped place store closed counted fixed ready stand
+  stmt_safe window setting whole entries (tree.Declare kind variables) names intervals popped place
+      store closed counted fixed ready stand = variables_safe window setting whole entries
+      (cells_of kind) variables names intervals popped place store closed.0 counted fixed ready
       stand
-  stmt_safe window port whole entries (tree.Assign name operator value) names intervals popped place
-      store closed counted fixed ready stand =
-      expr_safe window port whole entries value intervals popped place store counted
+  stmt_safe window setting whole entries (tree.Evaluate value) names intervals popped place store
+      closed counted fixed ready stand =
+      expr_safe window setting whole entries value intervals popped place store counted fixed ready
+      stand
+  stmt_safe window setting whole entries (tree.Assign name operator value) names intervals popped
+      place store closed counted fixed ready stand =
+      expr_safe window setting whole entries value intervals popped place store counted
       (λ n e. or_second (bytes_eq name n) _ (fixed n e)) ready stand
-  stmt_safe window port whole entries (tree.AssignElement name index operator value) names intervals
-      popped place store closed counted fixed ready stand =
+  stmt_safe window setting whole entries (tree.AssignElement name index operator value) names
+      intervals popped place store closed counted fixed ready stand =
       let later = advance popped (expr_counts index) in
       let past = place + length (peeks_of_expr index) in
       let sites = expr_sites intervals popped index in
@@ -359,17 +380,18 @@ mutual
       λ n e. or_second (expr_writes n index) _ (or_second (bytes_eq name n) _ (fixed n e)) in
       let index_counted = both_first (expr_counts index) _ counted in
       let value_counted = both_second (expr_counts index) (expr_counts value) counted in (
-        expr_safe window port whole entries index intervals popped place store index_counted
+        expr_safe window setting whole entries index intervals popped place store index_counted
             fixed_index ready (stand_first window entries place sites sites_value stand),
-        IfOk-weaker (value_of port index store) (λ at. Ready intervals later at.1) _
-            (λ at h. expr_safe window port whole entries value intervals later past at.1
+        IfOk-weaker (value_of setting index store)
+            (λ at. Ready setting.fields intervals later at.1) _
+            (λ at h. expr_safe window setting whole entries value intervals later past at.1
             value_counted fixed_value h
             (stand_after window entries place sites sites_value (peeks_of_expr index)
             (expr_entries index intervals popped) stand))
-            (ready_value port index intervals popped store index_counted fixed_index ready),
+            (ready_value setting index intervals popped store index_counted fixed_index ready),
       )
-  stmt_safe window port whole entries (tree.If condition chosen) names intervals popped place store
-      closed counted fixed ready stand =
+  stmt_safe window setting whole entries (tree.If condition chosen) names intervals popped place
+      store closed counted fixed ready stand =
       let later = advance popped (expr_counts condition) in
       let past = place + length (peeks_of_expr condition) in
       let sites = expr_sites intervals popped condition in
@@ -386,30 +408,31 @@ mutual
       let rest_stand : Stand window entries past sides =
       stand_after window entries place sites sides (peeks_of_expr condition)
       (expr_entries condition intervals popped) stand in (
-        expr_safe window port whole entries condition intervals popped place store first_counted
+        expr_safe window setting whole entries condition intervals popped place store first_counted
             fixed_condition ready (stand_first window entries place sites sides stand),
-        IfOk-weaker (value_of port condition store)
-            (λ test. Ready intervals later test.1 × IfSome (constant condition) (λ v. test.0 ≡ v)) _
-            (λ test h.
-            match_by (is_true test.0) (StmtIsSafe port entries past chosen test.1)
+        IfOk-weaker (value_of setting condition store)
+            (λ test. Ready setting.fields intervals later test.1 × IfSome (constant condition)
+            (λ v. test.0 ≡ v)) _ (λ test h.
+            match_by (is_true test.0) (StmtIsSafe setting entries past chosen test.1)
             (Unit {0})
-            (λ e. stmt_safe window port whole entries chosen names intervals later past test.1
-            closed.1 ((side_some (constant condition) test.0
+            (λ e. stmt_safe window setting whole entries chosen names intervals later past test.1
+            (closed.0.1, closed.1) ((side_some (constant condition) test.0
             (stmt_counts (names_of intervals) chosen)
             (Some no_items) h.1 rest_counted).0 e) fixed_chosen h.0
             (stand_chosen window entries past (constant condition) test.0 chosen_sites []
             (peeks_of_stmt chosen) [] h.1 e rest_stand)) (λ e. tt))
-            (both_ok (value_of port condition store) _ _
-            (ready_value port condition intervals popped store first_counted fixed_condition
-            ready) (constant_sound port condition store)),
+            (both_ok (value_of setting condition store) _ _
+            (ready_value setting condition intervals popped store first_counted fixed_condition
+            ready) (constant_sound setting condition store)),
       )
-  stmt_safe window port whole entries (tree.IfElse condition chosen other) names intervals popped
+  stmt_safe window setting whole entries (tree.IfElse condition chosen other) names intervals popped
       place store closed counted fixed ready stand =
       let later = advance popped (expr_counts condition) in
       let past = place + length (peeks_of_expr condition) in
       let sites = expr_sites intervals popped condition in
       let chosen_sites = stmt_sites intervals later chosen in
       let other_sites = stmt_sites intervals later other in
+      let either = plain_sides names condition chosen other closed in
       let sides = sides_sites (constant condition) chosen_sites other_sites
       (peeks_of_stmt chosen) (peeks_of_stmt other) in
       let fixed_condition : Fixed intervals (λ n. expr_writes n condition) =
@@ -427,31 +450,32 @@ mutual
       let rest_stand : Stand window entries past sides =
       stand_after window entries place sites sides (peeks_of_expr condition)
       (expr_entries condition intervals popped) stand in (
-        expr_safe window port whole entries condition intervals popped place store first_counted
+        expr_safe window setting whole entries condition intervals popped place store first_counted
             fixed_condition ready (stand_first window entries place sites sides stand),
-        IfOk-weaker (value_of port condition store)
-            (λ test. Ready intervals later test.1 × IfSome (constant condition) (λ v. test.0 ≡ v)) _
-            (λ test h.
+        IfOk-weaker (value_of setting condition store)
+            (λ test. Ready setting.fields intervals later test.1 × IfSome (constant condition)
+            (λ v. test.0 ≡ v)) _ (λ test h.
             let some = side_some (constant condition) test.0
             (stmt_counts (names_of intervals) chosen)
             (stmt_counts (names_of intervals) other) h.1 rest_counted in
-            match_by (is_true test.0) (StmtIsSafe port entries past chosen test.1)
-            (StmtIsSafe port entries (past + length (peeks_of_stmt chosen)) other test.1)
-            (λ e. stmt_safe window port whole entries chosen names intervals later past test.1
-            closed.1 (some.0 e) fixed_chosen h.0
+            match_by (is_true test.0) (StmtIsSafe setting entries past chosen test.1)
+            (StmtIsSafe setting entries (past + length (peeks_of_stmt chosen)) other test.1)
+            (λ e. stmt_safe window setting whole entries chosen names intervals later past test.1
+            either.0 (some.0 e) fixed_chosen h.0
             (stand_chosen window entries past (constant condition) test.0 chosen_sites other_sites
             (peeks_of_stmt chosen) (peeks_of_stmt other) h.1 e rest_stand))
-            (λ e. stmt_safe window port whole entries other names intervals later
-            (past + length (peeks_of_stmt chosen)) test.1 closed.2 (some.1 e) fixed_other h.0
+            (λ e. stmt_safe window setting whole entries other names intervals later
+            (past + length (peeks_of_stmt chosen)) test.1 either.1 (some.1 e) fixed_other h.0
             (stand_other window entries past (constant condition) test.0 chosen_sites other_sites
             (peeks_of_stmt chosen) (peeks_of_stmt other)
             (stmt_entries chosen intervals later) h.1 e rest_stand)))
-            (both_ok (value_of port condition store) _ _
-            (ready_value port condition intervals popped store first_counted fixed_condition
-            ready) (constant_sound port condition store)),
+            (both_ok (value_of setting condition store) _ _
+            (ready_value setting condition intervals popped store first_counted fixed_condition
+            ready) (constant_sound setting condition store)),
       )
-  stmt_safe window port whole entries (tree.While condition body) names intervals popped place store
-      closed counted fixed ready stand =
+  stmt_safe window setting whole entries (tree.While condition body) names intervals popped place
+      store closed counted fixed ready stand =
+      let turn : IsPlain names body = (closed.0.1, closed.1) in
       let x = expr_counts condition in
       let y = stmt_counts (names_of intervals) body in
       let past = place + length (peeks_of_expr condition) in
@@ -463,27 +487,34 @@ mutual
       λ n e. or_first (expr_writes n condition) _ (fixed n e) in
       let fixed_body : Fixed intervals (λ n. stmt_writes n body) =
       λ n e. or_second (expr_writes n condition) _ (fixed n e) in
-      loop_safe (Ready intervals popped) (λ s. ExprIsSafe port entries place condition s)
-      (λ s. StmtIsSafe port entries past body s) (value_of port condition)
-      (inside (stmt_done port body)) (ready_free intervals popped)
-      (λ s r. expr_safe window port whole entries condition intervals popped place s
+      subst (λ r. LoopIsSafe (suc turn_limit) (λ s. ExprIsSafe setting entries place condition s)
+      (λ s. StmtIsSafe setting entries past body s)
+      (test_unless_returned r (value_of setting condition)) (inside (stmt_done setting body)) store)
+      (sym closed.1)
+      (loop_safe (Ready setting.fields intervals popped)
+      (λ s. ExprIsSafe setting entries place condition s)
+      (λ s. StmtIsSafe setting entries past body s) (value_of setting condition)
+      (inside (stmt_done setting body)) (ready_free setting.fields intervals popped)
+      (λ s r. expr_safe window setting whole entries condition intervals popped place s
       (nothing_some x none_x) fixed_condition r
       (stand_first window entries place sites sites_body stand))
-      (λ s r. stmt_safe window port whole entries body names intervals popped past s closed.1
+      (λ s r. stmt_safe window setting whole entries body names intervals popped past s turn
       (nothing_some y none_y) fixed_body r
       (stand_after window entries place sites sites_body (peeks_of_expr condition)
       (expr_entries condition intervals popped) stand))
-      (λ s r. IfOk-weaker (value_of port condition s)
-      (λ given. Ready intervals (advance popped x) given.1) _
-      (λ given h. ready_still intervals popped x given.1 none_x h)
-      (ready_value port condition intervals popped s (nothing_some x none_x) fixed_condition r))
-      (λ s r. IfOk-weaker (inside (stmt_done port body) s) (Ready intervals (advance popped y)) _
-      (λ after h. ready_still intervals popped y after none_y h)
-      (ready_inside port body names intervals popped s closed.1
+      (λ s r. IfOk-weaker (value_of setting condition s)
+      (λ given. Ready setting.fields intervals (advance popped x) given.1) _
+      (λ given h. ready_still setting.fields intervals popped x given.1 none_x h)
+      (ready_value setting condition intervals popped s (nothing_some x none_x) fixed_condition r))
+      (λ s r. IfOk-weaker (inside (stmt_done setting body) s)
+      (Ready setting.fields intervals (advance popped y)) _
+      (λ after h. ready_still setting.fields intervals popped y after none_y h)
+      (ready_inside setting body names intervals popped s turn
       (nothing_some y none_y) fixed_body r))
-      (suc turn_limit) store ready
-  stmt_safe window port whole entries (tree.For first condition step body) names intervals popped
+      (suc turn_limit) store ready)
+  stmt_safe window setting whole entries (tree.For first condition step body) names intervals popped
       place store closed counted fixed ready stand =
+      let parts = plain_parts names first condition step body closed in
       let locals = names_of intervals in
       let reported = counted_loop locals first condition step body in
       let inner = intervals_after intervals first in
@@ -508,46 +539,52 @@ mutual
       let turns_stand : Stand window entries past turns =
       stand_after window entries place sites turns (peeks_of_stmt first)
       (stmt_entries first intervals popped) stand in (
-        stmt_safe window port whole entries first names intervals popped place store closed.0
+        stmt_safe window setting whole entries first names intervals popped place store parts.0
             first_counted first_fixed ready (stand_first window entries place sites turns stand),
-        IfOk-weaker (stmt_done port first store)
-            (λ begun. Ready inner later begun
+        IfOk-weaker (stmt_done setting first store)
+            (λ begun. Ready setting.fields inner later begun
             × IfSome reported (λ loop. Known locals first condition step body loop
-            × HasValue loop.name loop.start begun)) _
+            × HasValue setting.fields loop.name loop.start begun)) _
             (λ begun h.
-            for_turns_safe window port whole entries locals first condition step body reported
+            let test_place = past + length (peeks_of_option condition) in
+            subst (λ r. ForIsSafe r setting entries past test_place
+            (test_place + length (peeks_of_stmt step)) condition step body begun)
+            (sym parts.2.1)
+            (for_turns_safe window setting whole entries locals first condition step body reported
             (names_after names first) inner later past begun
-            (counted_free locals first condition step body) h.1 closed.2 closed.3 inner_counted
+            (counted_free locals first condition step body) h.1 parts.1 parts.2 inner_counted
             (fixed_inner intervals first condition step body fixed) h.0 turns_stand
-            (λ r p n s c f d k. stmt_safe window port whole entries step
-            (names_after names first) r p n s closed.2 c f d k)
-            (λ r p n s c f d k. stmt_safe window port whole entries body
-            (names_after names first) r p n s closed.3 c f d k))
-            (both_ok (stmt_done port first store) _ _
-            (ready_stmt port first names intervals popped store closed.0 first_counted first_fixed
-            ready) (begins_by locals first condition step body reported port store
+            (λ r p n s c f d k. stmt_safe window setting whole entries step
+            (names_after names first) r p n s parts.1 c f d k)
+            (λ r p n s c f d k. stmt_safe window setting whole entries body
+            (names_after names first) r p n s parts.2 c f d k)))
+            (both_ok (stmt_done setting first store) _ _
+            (ready_stmt setting first names intervals popped store parts.0 first_counted
+            first_fixed ready) (begins_by locals first condition step body reported setting store
             ready.seen (loop_known locals first condition step body))),
       )
-  stmt_safe window port whole entries (tree.Push value) names intervals popped place store closed
-      counted fixed ready stand = expr_safe window port whole entries value intervals popped place
-      store (both_first (expr_counts value) (Some one_push) counted) fixed ready stand
-  stmt_safe window port whole entries (tree.Print value) names intervals popped place store closed
-      counted fixed ready stand = expr_safe window port whole entries value intervals popped place
-      store counted fixed ready stand
-  stmt_safe window port whole entries (tree.Println value) names intervals popped place store closed
-      counted fixed ready stand = expr_safe window port whole entries value intervals popped place
-      store counted fixed ready stand
+  stmt_safe window setting whole entries (tree.Push value) names intervals popped place store closed
+      counted fixed ready stand = expr_safe window setting whole entries value intervals popped
+      place store (both_first (expr_counts value) (Some one_push) counted) fixed ready stand
+  stmt_safe window setting whole entries (tree.Print value) names intervals popped place store
+      closed counted fixed ready stand = expr_safe window setting whole entries value intervals
+      popped place store counted fixed ready stand
+  stmt_safe window setting whole entries (tree.Println value) names intervals popped place store
+      closed counted fixed ready stand = expr_safe window setting whole entries value intervals
+      popped place store counted fixed ready stand
 
-  pub stmts_safe : (window : ℕ) (port : Port) → IsWhole window port → (entries : List Bool)
+  pub stmts_safe : (window : ℕ) (setting : Setting) → IsWhole window setting.port
+      → (entries : List Bool)
       (s : tree.Stmts) (names : Scope) (intervals : Intervals) (popped : PopInterval) (place : ℕ)
-      (store : Store) → AreClosed names s → is_some (stmts_counts (names_of intervals) s) ≡ true
-      → Fixed intervals (λ name. stmts_write name s) → Ready intervals popped store
+      (store : Store) → ArePlain names s → is_some (stmts_counts (names_of intervals) s) ≡ true
+      → Fixed intervals (λ name. stmts_write name s) → Ready setting.fields intervals popped store
       → Stand window entries place (stmts_sites intervals popped s)
-      → StmtsAreSafe port entries place s store
-  stmts_safe window port whole entries tree.Done names intervals popped place store closed counted
-      fixed ready stand = tt
-  stmts_safe window port whole entries (tree.Then first rest) names intervals popped place store
+      → StmtsAreSafe setting entries place s store
+  stmts_safe window setting whole entries tree.Done names intervals popped place store closed
+      counted fixed ready stand = tt
+  stmts_safe window setting whole entries (tree.Then first rest) names intervals popped place store
       closed counted fixed ready stand =
+      let parts = plain_then names first rest closed in
       let locals = names_of intervals in
       let inner = intervals_after intervals first in
       let later = advance popped (stmt_counts locals first) in
@@ -564,15 +601,15 @@ mutual
       λ n e. let before = known_before intervals first n e in
       unless_shadowed (shadows n first) (stmts_write n rest)
       (or_second (stmt_writes n first) _ (fixed n before.0)) before.1 in (
-        stmt_safe window port whole entries first names intervals popped place store closed.0
+        stmt_safe window setting whole entries first names intervals popped place store parts.0
             first_counted first_fixed ready
             (stand_first window entries place sites sites_rest stand),
-        IfOk-weaker (stmt_done port first store) (Ready inner later) _
-            (λ middle h. stmts_safe window port whole entries rest (names_after names first)
-            inner later (place + length (peeks_of_stmt first)) middle closed.1 inner_counted
+        IfOk-weaker (stmt_done setting first store) (Ready setting.fields inner later) _
+            (λ middle h. stmts_safe window setting whole entries rest (names_after names first)
+            inner later (place + length (peeks_of_stmt first)) middle parts.1 inner_counted
             rest_fixed h
             (stand_after window entries place sites sites_rest (peeks_of_stmt first)
             (stmt_entries first intervals popped) stand))
-            (ready_stmt port first names intervals popped store closed.0 first_counted first_fixed
-            ready),
+            (ready_stmt setting first names intervals popped store parts.0 first_counted
+            first_fixed ready),
       )

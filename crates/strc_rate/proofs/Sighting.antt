@@ -1,10 +1,10 @@
 -- What is known of peeks, one part after the other.
 use Rattle.std.proofs.Common.{◌≡◌, List, ◌∷◌, ◌++◌, Option, None, sym, ap, ◌∙◌, append_assoc}
 use Rattle.strc_syntax.specs.Tree as tree
-use Rattle.strc_rate.specs.Counts.{Counts, option_counts, stmt_counts}
+use Rattle.strc_rate.specs.Counts.{Counts, expr_counts, option_counts, stmt_counts}
 use Rattle.strc_interval.specs.Intervals.{Intervals, intervals_after}
 use Rattle.strc_rate.specs.Peeks.{PeekSite, PopInterval, advance, option_sites, variables_sites}
-use Rattle.strc_rate.specs.Peeks.{stmt_sites, stmts_sites}
+use Rattle.strc_rate.specs.Peeks.{expr_sites, arguments_sites, stmt_sites, stmts_sites}
 use Rattle.strc_interval.specs.Intervals.{names_of}
 
 -- one more statement after those so far
@@ -48,4 +48,20 @@ variables_seen so_far next whole intervals inner popped later passed x rest all 
     ++ variables_sites (record { 0 = x.name; 1 = None } ∷ intervals) p rest))
     (moved ∙ ap (advance popped) counted)
     ∙ ap (λ b. so_far ++ variables_sites intervals popped b) (sym is)
+    ∙ left
+
+-- one more argument of a call
+pub arguments_seen : (so_far next whole : List PeekSite) (intervals : Intervals)
+    (popped later : PopInterval) (passed : Option Counts) (x : tree.Expr)
+    (rest all : tree.Arguments) → passed ≡ expr_counts x → later ≡ advance popped passed
+    → next ≡ so_far ++ expr_sites intervals popped x → all ≡ tree.Argument x rest
+    → so_far ++ arguments_sites intervals popped all ≡ whole
+    → next ++ arguments_sites intervals later rest ≡ whole
+arguments_seen so_far next whole intervals popped later passed x rest all counted moved more is
+    left =
+    ap (λ s. s ++ arguments_sites intervals later rest) more
+    ∙ append_assoc so_far (expr_sites intervals popped x) (arguments_sites intervals later rest)
+    ∙ ap (λ p. so_far ++ (expr_sites intervals popped x ++ arguments_sites intervals p rest))
+    (moved ∙ ap (advance popped) counted)
+    ∙ ap (λ b. so_far ++ arguments_sites intervals popped b) (sym is)
     ∙ left

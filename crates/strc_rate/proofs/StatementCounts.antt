@@ -1,6 +1,7 @@
 -- What is counted from the text of statements is what they move.
 use Rattle.std.proofs.Common.{◌≡◌, refl, sym, subst, ◌∙◌, ap, ℕ, suc, ◌+◌, ◌<◌, ◌≤◌, ℤ, Bool, cond}
-use Rattle.std.proofs.Common.{List, length, Option, Some, None, Result, Ok, ⊎_elim, arith}
+use Rattle.std.proofs.Common.{true, false, List, length, Option, Some, None, Result, Ok, ⊎_elim}
+use Rattle.std.proofs.Common.{arith}
 use Rattle.std.specs.Option.{IfSome}
 use Rattle.std.specs.Result.{IfOk}
 use Rattle.std.proofs.lemmas.Result.{IfOk-weaker}
@@ -8,9 +9,8 @@ use Rattle.strc_base.specs.Results.{result_and_then}
 use Rattle.strc_syntax.specs.Tree as tree
 use Rattle.strc_semantics.specs.declared.fault.Cause.{Cause}
 use Rattle.strc_semantics.specs.Arithmetic.{is_true}
-use Rattle.strc_semantics.specs.Scoping.{Scope, cells_of, size_of, names_after}
-use Rattle.strc_semantics.specs.Closed.{IsClosedStmt, AreClosed}
-use Rattle.strc_semantics.specs.Firing.{Port, Traffic, Store, cells_named, value_in, value_of}
+use Rattle.strc_semantics.specs.Scoping.{Scope, cells_of, size_of, names_after, is_declared}
+use Rattle.strc_semantics.specs.Firing.{Setting, Traffic, Store, cells_named, value_in, value_of}
 use Rattle.strc_semantics.specs.Firing.{condition_value, pushed_to, turn_limit, looped, inside}
 use Rattle.strc_semantics.specs.Firing.{stmt_done, stmts_done}
 use Rattle.strc_rate.proofs.Scopes.{scope_of}
@@ -20,43 +20,44 @@ use Rattle.strc_interval.specs.Loops.{stmt_writes, expr_writes}
 use Rattle.strc_rate.specs.Counts.{Counts, no_items, one_push, added, sequence, require_zero}
 use Rattle.strc_rate.specs.Counts.{repeated, branch_counts, expr_counts, option_counts}
 use Rattle.strc_rate.specs.Counts.{turns_counts, stmt_counts, stmts_counts}
-use Rattle.strc_rate.proofs.Results.{then_ok, both_ok, any_ok}
-use Rattle.strc_rate.proofs.Keeping.{Same, same_refl, same_holding, value_holds}
+use Rattle.strc_rate.proofs.Results.{then_ok, both_ok, any_ok, above}
+use Rattle.strc_rate.proofs.Keeping.{Same, value_same, reaches_fields}
 use Rattle.strc_rate.proofs.Unwritten.{Done, inside_same, looped_holds, stmt_keeps}
 use Rattle.strc_rate.proofs.LoopTurns.{no_moves}
 use Rattle.strc_rate.proofs.LoopParts.{constant_sound, cells_sized, Seen, seen_after}
-use Rattle.strc_rate.proofs.CountedLoops.{HasValue, Known, loop_known, At, loop_from}
+use Rattle.strc_rate.proofs.CountedLoops.{HasValue, HasPlace, Known, loop_known, At, loop_from}
+use Rattle.strc_rate.proofs.Unreturned.{while_ok, for_ok, block_ok}
+use Rattle.strc_rate.proofs.Unreturned.{IsPlain, ArePlain, plain_sides, plain_parts, plain_then}
 use Rattle.strc_rate.proofs.CountedMoves.{Moves, Counted, stays, moves_same, one_after}
 use Rattle.strc_rate.proofs.CountedMoves.{nothing_cases, IsStill, CountedOk, advance_counts}
 use Rattle.strc_rate.proofs.CountedMoves.{side_counts, store_traffic, value_counts}
 use Rattle.strc_rate.proofs.CountedMoves.{assigned_counts}
 use Rattle.strc_rate.proofs.CountedMoves.{element_assigned_counts, declared_counts, push_counts}
-use Rattle.strc_rate.proofs.CountedMoves.{one_more_counted}
+use Rattle.strc_rate.proofs.CountedMoves.{one_more_counted, more_turns}
 
 -- ---- parts of statements
 
 -- a value, with what was moved, in a store of the same variables
-value_in_scope : (port : Port) (e : tree.Expr) (store : Store)
-    → IfOk (value_of port e store) (λ given. Counted (expr_counts e) store.traffic given.1.traffic
+value_in_scope : (setting : Setting) (e : tree.Expr) (store : Store)
+    → IfOk (value_of setting e store) (λ given. Counted
+    (expr_counts e) store.traffic given.1.traffic
     × (scope_of given.1.variables ≡ scope_of store.variables)
     × IfSome (constant e) (λ v. given.0 ≡ v))
-value_in_scope port e store =
+value_in_scope setting e store =
     let writes : List ℕ → Bool = λ name. expr_writes name e in
-    IfOk-weaker (value_of port e store) (λ given. Counted
+    IfOk-weaker (value_of setting e store) (λ given. Counted
     (expr_counts e) store.traffic given.1.traffic
-    × (Same writes store.variables given.1.variables × IfSome (constant e) (λ v. given.0 ≡ v)))
-    _
+    × (Same setting.fields writes store.variables given.1.variables × IfSome (constant e)
+    (λ v. given.0 ≡ v))) _
     (λ given h. (h.0, h.1.0.shape, h.1.1))
-    (both_ok (value_of port e store) (λ given. Counted
+    (both_ok (value_of setting e store) (λ given. Counted
     (expr_counts e) store.traffic given.1.traffic)
-    (λ given. Same writes store.variables given.1.variables
-    × IfSome (constant e) (λ v. given.0 ≡ v)) (value_counts port e store)
-    (both_ok (value_of port e store) (λ given. Same writes store.variables given.1.variables)
-    (λ given. IfSome (constant e) (λ v. given.0 ≡ v))
-    (value_holds (λ s. Same writes store.variables s.variables) writes
-    (same_holding writes store.variables) port e store (λ name f. f)
-    (same_refl writes store.variables))
-    (constant_sound port e store)))
+    (λ given. Same setting.fields writes store.variables given.1.variables
+    × IfSome (constant e) (λ v. given.0 ≡ v)) (value_counts setting e store)
+    (both_ok (value_of setting e store) (λ given. Same setting.fields writes store.variables
+    given.1.variables) (λ given. IfSome (constant e) (λ v. given.0 ≡ v))
+    (value_same setting setting.fields (reaches_fields setting) e store)
+    (constant_sound setting e store)))
 
 -- a test of a loop, and a part that is run in each turn, in these variables
 abbrev Tests : Scope → Option Counts → (Store → Result (ℤ × Store) Cause) → Type 0
@@ -71,19 +72,20 @@ Parts scope x does =
     → IfOk (does store) (λ after. Counted x store.traffic after.traffic
     × (scope_of after.variables ≡ scope))
 
-expr_tests : (port : Port) (e : tree.Expr) (scope : Scope)
-    → Tests scope (expr_counts e) (value_of port e)
-expr_tests port e scope store is =
-    IfOk-weaker (value_of port e store) (λ given. Counted
+expr_tests : (setting : Setting) (e : tree.Expr) (scope : Scope)
+    → Tests scope (expr_counts e) (value_of setting e)
+expr_tests setting e scope store is =
+    IfOk-weaker (value_of setting e store) (λ given. Counted
     (expr_counts e) store.traffic given.1.traffic
     × (scope_of given.1.variables ≡ scope_of store.variables)
     × IfSome (constant e) (λ v. given.0 ≡ v)) _ (λ given h. (h.0, h.1 ∙ is))
-    (value_in_scope port e store)
+    (value_in_scope setting e store)
 
-condition_tests : (port : Port) (condition : Option tree.Expr) (scope : Scope)
-    → Tests scope (option_counts condition) (condition_value port condition)
-condition_tests port None scope store is = (stays store.traffic, is)
-condition_tests port (Some condition) scope store is = expr_tests port condition scope store is
+condition_tests : (setting : Setting) (condition : Option tree.Expr) (scope : Scope)
+    → Tests scope (option_counts condition) (condition_value setting condition)
+condition_tests setting None scope store is = (stays store.traffic, is)
+condition_tests setting (Some condition) scope store is =
+    expr_tests setting condition scope store is
 
 -- a statement in a scope of its own
 pub inside_counts : (x : Option Counts) (does : Store → Result Store Cause) (store : Store)
@@ -93,22 +95,24 @@ inside_counts x does store h =
     then_ok (does store) _ (λ after. Counted x store.traffic after.traffic)
     (λ after. Counted x store.traffic after.traffic) h (λ inner k. k)
 
-pub inside_parts : (port : Port) (s : tree.Stmt) (names scope : Scope) (x : Option Counts)
-    → IsClosedStmt names s → ((store : Store) → scope_of store.variables ≡ scope
-    → CountedOk store_traffic x store.traffic (stmt_done port s store))
-    → Parts scope x (inside (stmt_done port s))
-inside_parts port s names scope x closed moves store is =
+pub inside_parts : (setting : Setting) (s : tree.Stmt) (names scope : Scope) (x : Option Counts)
+    → IsPlain names s → ((store : Store) → scope_of store.variables ≡ scope
+    → CountedOk store_traffic x store.traffic (stmt_done setting s store))
+    → Parts scope x (inside (stmt_done setting s))
+inside_parts setting s names scope x closed moves store is =
     let writes : List ℕ → Bool = λ name. stmt_writes name s in
-    IfOk-weaker (inside (stmt_done port s) store)
+    IfOk-weaker (inside (stmt_done setting s) store)
     (λ after. Counted x store.traffic after.traffic
-    × Same writes store.variables after.variables) _ (λ after h. (h.0, h.1.shape ∙ is))
-    (both_ok (inside (stmt_done port s) store) (λ after. Counted x store.traffic after.traffic)
-    (λ after. Same writes store.variables after.variables)
-    (inside_counts x (stmt_done port s) store (moves store is))
-    (inside_same writes writes (stmt_done port s) store (λ name e. e)
-    (IfOk-weaker (stmt_done port s store)
-    (λ after. Done writes (names_after (scope_of store.variables) s) store.variables
-    after.variables) _ (λ after k. k.grown) (stmt_keeps port s names store closed))))
+    × Same setting.fields writes store.variables after.variables) _
+    (λ after h. (h.0, h.1.shape ∙ is))
+    (both_ok (inside (stmt_done setting s) store) (λ after. Counted x store.traffic after.traffic)
+    (λ after. Same setting.fields writes store.variables after.variables)
+    (inside_counts x (stmt_done setting s) store (moves store is))
+    (inside_same setting.fields writes writes (stmt_done setting s) store (λ name e. e)
+    (IfOk-weaker (stmt_done setting s store)
+    (λ after. Done setting.fields writes (names_after (scope_of store.variables) s) store.variables
+    after.variables) _ (λ after k. k.grown) (stmt_keeps setting setting.fields
+    (reaches_fields setting) s names store closed))))
 
 -- ---- loops that move nothing
 
@@ -241,50 +245,39 @@ for_counts scope x y z test step body tests steps turns store is =
 
 -- ---- counted loops
 
-pub more_turns : (x : Option Counts) (before traffic : Traffic) (n : ℕ) → Counted x before traffic
-    → Counted x before (record traffic { turns = n })
-more_turns None before traffic n h = tt
-more_turns (Some x) before traffic n h = record {
-  pops = h.pops;
-  pushes = h.pushes;
-  popped = h.popped;
-  pushed = h.pushed;
-  saturated_pops =
-      h.saturated_pops;
-  saturated_pushes = h.saturated_pushes;
-}
-
 -- as many turns as are reported
 counted_turns : (locals : Locals) (first : tree.Stmt) (condition : Option tree.Expr)
     (step body : tree.Stmt) (loop : Loop) → Known locals first condition step body loop
-    → (port : Port) (names scope : Scope) (x : Option Counts) → IsClosedStmt names body
-    → Parts scope x (inside (stmt_done port body)) → (store : Store)
-    → scope_of store.variables ≡ scope → HasValue loop.name loop.start store
+    → (setting : Setting) (names scope : Scope) (x : Option Counts) → IsPlain names body
+    → Parts scope x (inside (stmt_done setting body)) → (store : Store)
+    → scope_of store.variables ≡ scope → HasValue setting.fields loop.name loop.start store
     → CountedOk store_traffic (repeated loop.turns x) store.traffic
-    (looped (suc turn_limit) (condition_value port condition)
-    (λ turn. result_and_then (inside (stmt_done port body) turn) (inside (stmt_done port step)))
-    store)
-counted_turns locals first condition step body loop known port names scope x closed turns store is
-    begins =
+    (looped (suc turn_limit) (condition_value setting condition)
+    (λ turn. result_and_then (inside (stmt_done setting body) turn)
+    (inside (stmt_done setting step))) store)
+counted_turns locals first condition step body loop known setting names scope x closed turns store
+    is begins =
     let P : ℕ → Traffic → Type 0 = λ t traffic. Counted (repeated t x) store.traffic traffic in
     let size : length (cells_named store.variables loop.name) ≡ size_of scope loop.name =
     cells_sized store.variables loop.name ∙ ap (λ s. size_of s loop.name) is in
     let some : 1 ≤ length (cells_named store.variables loop.name) = begins.some in
-    let sized : 1 ≤ size_of scope loop.name = omega arith in
+    let sized : HasPlace setting.fields scope loop.name =
+    (omega arith, sym (ap (λ s. is_declared (above setting.fields s) loop.name) is) ∙ begins.inner)
+    in
     let bodies : (t : ℕ) (s : Store) → t < loop.turns → scope_of s.variables ≡ scope
     → value_in s loop.name ≡ value_after loop t → P t s.traffic
-    → IfOk (inside (stmt_done port body) s) (λ after. P (t + 1) after.traffic) =
+    → IfOk (inside (stmt_done setting body) s) (λ after. P (t + 1) after.traffic) =
     λ t s lt shape value so_far.
-    IfOk-weaker (inside (stmt_done port body) s)
+    IfOk-weaker (inside (stmt_done setting body) s)
     (λ after. Counted x s.traffic after.traffic × (scope_of after.variables ≡ scope)) _
     (λ after h. one_more_counted t store.traffic s.traffic after.traffic x so_far h.0)
     (turns s shape) in
-    IfOk-weaker (looped (suc turn_limit) (condition_value port condition)
-    (λ turn. result_and_then (inside (stmt_done port body) turn) (inside (stmt_done port step)))
-    store) (At known port names scope closed sized P
+    IfOk-weaker (looped (suc turn_limit) (condition_value setting condition)
+    (λ turn. result_and_then (inside (stmt_done setting body) turn)
+    (inside (stmt_done setting step))) store) (At known setting names scope closed sized P
     (λ t traffic n h. more_turns (repeated t x) store.traffic traffic n h) bodies loop.turns) _
     (λ after h. h.so_far)
-    (loop_from known port names scope closed sized P
+    (loop_from known setting names scope closed sized P
     (λ t traffic n h. more_turns (repeated t x) store.traffic traffic n h) bodies
     (suc turn_limit) 0 store (omega arith)
     (record {
@@ -296,62 +289,65 @@ counted_turns locals first condition step body loop known port names scope x clo
 
 -- the turns of a `for`, whether it is counted or not
 turns_by : (locals : Locals) (first : tree.Stmt) (condition : Option tree.Expr)
-    (step body : tree.Stmt) (reported : Option Loop) (port : Port) (names scope : Scope)
-    (y z : Option Counts) → IsClosedStmt names body → Parts scope y (inside (stmt_done port step))
-    → Parts scope z (inside (stmt_done port body)) → (store : Store)
+    (step body : tree.Stmt) (reported : Option Loop) (setting : Setting) (names scope : Scope)
+    (y z : Option Counts) → IsPlain names body → Parts scope y
+    (inside (stmt_done setting step))
+    → Parts scope z (inside (stmt_done setting body)) → (store : Store)
     → scope_of store.variables ≡ scope → IfSome reported
-    (λ loop. Known locals first condition step body loop × HasValue loop.name loop.start store)
+    (λ loop. Known locals first condition step body loop
+    × HasValue setting.fields loop.name loop.start store)
     → CountedOk store_traffic (turns_counts reported (option_counts condition) y z) store.traffic
-    (looped (suc turn_limit) (condition_value port condition)
-    (λ turn. result_and_then (inside (stmt_done port body) turn) (inside (stmt_done port step)))
-    store)
-turns_by locals first condition step body None port names scope y z closed steps turns store is
+    (looped (suc turn_limit) (condition_value setting condition)
+    (λ turn. result_and_then (inside (stmt_done setting body) turn)
+    (inside (stmt_done setting step))) store)
+turns_by locals first condition step body None setting names scope y z closed steps turns store is
     known =
-    for_counts scope (option_counts condition) y z (condition_value port condition)
-    (inside (stmt_done port step)) (inside (stmt_done port body))
-    (condition_tests port condition scope) steps turns store is
+    for_counts scope (option_counts condition) y z (condition_value setting condition)
+    (inside (stmt_done setting step)) (inside (stmt_done setting body))
+    (condition_tests setting condition scope) steps turns store is
 turns_by locals first condition step body
-    (Some loop) port names scope y z closed steps turns store is known =
-    counted_turns locals first condition step body loop known.0 port names scope z closed turns
+    (Some loop) setting names scope y z closed steps turns store is known =
+    counted_turns locals first condition step body loop known.0 setting names scope z closed turns
     store is known.1
 
 -- the variable of a counted loop has its first value after the first part
 pub begins_by : (locals : Locals) (first : tree.Stmt) (condition : Option tree.Expr)
-    (step body : tree.Stmt) (reported : Option Loop) (port : Port) (store : Store)
-    → Seen locals (scope_of store.variables)
+    (step body : tree.Stmt) (reported : Option Loop) (setting : Setting) (store : Store)
+    → Seen setting.fields locals (scope_of store.variables)
     → IfSome reported (Known locals first condition step body)
-    → IfOk (stmt_done port first store) (λ begun. IfSome reported
-    (λ loop. Known locals first condition step body loop × HasValue loop.name loop.start begun))
-begins_by locals first condition step body None port store seen known =
-    any_ok (stmt_done port first store)
-begins_by locals first condition step body (Some loop) port store seen known =
-    IfOk-weaker (stmt_done port first store) (HasValue loop.name loop.start) _
-    (λ begun h. (known, h)) (known.begins port store seen)
+    → IfOk (stmt_done setting first store) (λ begun. IfSome reported
+    (λ loop. Known locals first condition step body loop
+    × HasValue setting.fields loop.name loop.start begun))
+begins_by locals first condition step body None setting store seen known =
+    any_ok (stmt_done setting first store)
+begins_by locals first condition step body (Some loop) setting store seen known =
+    IfOk-weaker (stmt_done setting first store) (HasValue setting.fields loop.name loop.start) _
+    (λ begun h. (known, h)) (known.begins setting store seen)
 
 -- ---- statements
 
-plain_value : (port : Port) (e : tree.Expr) (store : Store) (go : ℤ × Store → Result Store Cause)
-    (x : Option Counts) → ((given : ℤ × Store)
+plain_value : (setting : Setting) (e : tree.Expr) (store : Store)
+    (go : ℤ × Store → Result Store Cause) (x : Option Counts) → ((given : ℤ × Store)
     → CountedOk store_traffic x given.1.traffic (go given))
     → CountedOk store_traffic (sequence (expr_counts e) x) store.traffic
-    (result_and_then (value_of port e store) go)
-plain_value port e store go x more =
-    then_ok (value_of port e store) go (λ given. Counted
+    (result_and_then (value_of setting e store) go)
+plain_value setting e store go x more =
+    then_ok (value_of setting e store) go (λ given. Counted
     (expr_counts e) store.traffic given.1.traffic)
     (λ after. Counted (sequence (expr_counts e) x) store.traffic after.traffic)
-    (value_counts port e store)
+    (value_counts setting e store)
     (λ given h. advance_counts store_traffic store.traffic given.1.traffic (expr_counts e) x
     (go given) h (more given))
 
-still_value : (port : Port) (e : tree.Expr) (store : Store) (go : ℤ × Store → Store)
+still_value : (setting : Setting) (e : tree.Expr) (store : Store) (go : ℤ × Store → Store)
     → ((x : Option Counts) (before : Traffic) (given : ℤ × Store) → Counted x before given.1.traffic
     → Counted x before (go given).traffic)
     → CountedOk store_traffic (expr_counts e) store.traffic
-    (result_and_then (value_of port e store) (λ given. Ok (go given)))
-still_value port e store go same =
-    then_ok (value_of port e store) _ (λ given. Counted
+    (result_and_then (value_of setting e store) (λ given. Ok (go given)))
+still_value setting e store go same =
+    then_ok (value_of setting e store) _ (λ given. Counted
     (expr_counts e) store.traffic given.1.traffic)
-    (λ after. Counted (expr_counts e) store.traffic after.traffic) (value_counts port e store)
+    (λ after. Counted (expr_counts e) store.traffic after.traffic) (value_counts setting e store)
     (λ given h. same (expr_counts e) store.traffic given h)
 
 -- a word is printed
@@ -372,136 +368,153 @@ printed_counted (Some x) before traffic after e f h =
     }
 
 mutual
-  pub stmt_counted : (port : Port) (s : tree.Stmt) (locals : Locals) (names : Scope) (store : Store)
-      → IsClosedStmt names s → Seen locals (scope_of store.variables)
-      → CountedOk store_traffic (stmt_counts locals s) store.traffic (stmt_done port s store)
-  stmt_counted port tree.Empty locals names store closed seen = stays store.traffic
-  stmt_counted port (tree.Compose statement) locals names store closed seen =
+  pub stmt_counted : (setting : Setting) (s : tree.Stmt) (locals : Locals) (names : Scope)
+      (store : Store) → IsPlain names s → Seen setting.fields locals (scope_of store.variables)
+      → CountedOk store_traffic (stmt_counts locals s) store.traffic (stmt_done setting s store)
+  stmt_counted setting tree.Empty locals names store closed seen = stays store.traffic
+  stmt_counted setting (tree.Compose statement) locals names store closed seen =
       stays store.traffic
-  stmt_counted port (tree.Return value) locals names store closed seen = stays store.traffic
-  stmt_counted port (tree.Block body) locals names store closed seen =
-      inside_counts (stmts_counts locals body) (stmts_done port body) store
-      (stmts_counted port body locals names store closed seen)
-  stmt_counted port (tree.Declare kind variables) locals names store closed seen =
-      declared_counts port (cells_of kind) variables store
-  stmt_counted port (tree.Evaluate value) locals names store closed seen =
-      still_value port value store _ (λ x before given h. h)
-  stmt_counted port (tree.Assign name operator value) locals names store closed seen =
-      assigned_counts port name operator value store
-  stmt_counted port (tree.AssignElement name index operator value) locals names store closed
-      seen = element_assigned_counts port name index operator value store
-  stmt_counted port (tree.If condition chosen) locals names store closed seen =
+  stmt_counted setting (tree.Return value) locals names store closed seen =
+      let returned : true ≡ false = closed.1 in absurd (cc)
+  stmt_counted setting (tree.Block body) locals names store closed seen =
+      inside_counts (stmts_counts locals body) (stmts_done setting body) store
+      (stmts_counted setting body locals names store closed seen)
+  stmt_counted setting (tree.Declare kind variables) locals names store closed seen =
+      declared_counts setting (cells_of kind) variables store
+  stmt_counted setting (tree.Evaluate value) locals names store closed seen =
+      still_value setting value store _ (λ x before given h. h)
+  stmt_counted setting (tree.Assign name operator value) locals names store closed seen =
+      assigned_counts setting name operator value store
+  stmt_counted setting (tree.AssignElement name index operator value) locals names store closed
+      seen = element_assigned_counts setting name index operator value store
+  stmt_counted setting (tree.If condition chosen) locals names store closed seen =
       let x = branch_counts (constant condition) (stmt_counts locals chosen) (Some no_items) in
-      then_ok (value_of port condition store) _
+      then_ok (value_of setting condition store) _
       (λ test. Counted (expr_counts condition) store.traffic test.1.traffic
       × (scope_of test.1.variables ≡ scope_of store.variables)
       × IfSome (constant condition) (λ v. test.0 ≡ v))
       (λ after. Counted (sequence (expr_counts condition) x) store.traffic after.traffic)
-      (value_in_scope port condition store)
+      (value_in_scope setting condition store)
       (λ test h. advance_counts store_traffic store.traffic test.1.traffic (expr_counts condition) x
-      (cond (is_true test.0) (inside (stmt_done port chosen) test.1) (Ok test.1)) h.0
+      (cond (is_true test.0) (inside (stmt_done setting chosen) test.1) (Ok test.1)) h.0
       (side_counts store_traffic (constant condition) test.0 (stmt_counts locals chosen)
-      (Some no_items) test.1.traffic (inside (stmt_done port chosen) test.1) (Ok test.1) h.2
-      (inside_counts (stmt_counts locals chosen) (stmt_done port chosen) test.1
-      (stmt_counted port chosen locals names test.1 closed.1
-      (subst (Seen locals) (sym h.1) seen)))
+      (Some no_items) test.1.traffic (inside (stmt_done setting chosen) test.1) (Ok test.1) h.2
+      (inside_counts (stmt_counts locals chosen) (stmt_done setting chosen) test.1
+      (stmt_counted setting chosen locals names test.1 (closed.0.1, closed.1)
+      (subst (Seen setting.fields locals) (sym h.1) seen)))
       (stays test.1.traffic)))
-  stmt_counted port (tree.IfElse condition chosen other) locals names store closed seen
+  stmt_counted setting (tree.IfElse condition chosen other) locals names store closed seen
       =
       let x = branch_counts (constant condition) (stmt_counts locals chosen)
       (stmt_counts locals other) in
-      then_ok (value_of port condition store) _
+      let sides = plain_sides names condition chosen other closed in
+      then_ok (value_of setting condition store) _
       (λ test. Counted (expr_counts condition) store.traffic test.1.traffic
       × (scope_of test.1.variables ≡ scope_of store.variables)
       × IfSome (constant condition) (λ v. test.0 ≡ v))
       (λ after. Counted (sequence (expr_counts condition) x) store.traffic after.traffic)
-      (value_in_scope port condition store)
+      (value_in_scope setting condition store)
       (λ test h. advance_counts store_traffic store.traffic test.1.traffic (expr_counts condition) x
-      (cond (is_true test.0) (inside (stmt_done port chosen) test.1)
-      (inside (stmt_done port other) test.1)) h.0
+      (cond (is_true test.0) (inside (stmt_done setting chosen) test.1)
+      (inside (stmt_done setting other) test.1)) h.0
       (side_counts store_traffic (constant condition) test.0 (stmt_counts locals chosen)
-      (stmt_counts locals other) test.1.traffic (inside (stmt_done port chosen) test.1)
-      (inside (stmt_done port other) test.1) h.2
-      (inside_counts (stmt_counts locals chosen) (stmt_done port chosen) test.1
-      (stmt_counted port chosen locals names test.1 closed.1
-      (subst (Seen locals) (sym h.1) seen)))
-      (inside_counts (stmt_counts locals other) (stmt_done port other) test.1
-      (stmt_counted port other locals names test.1 closed.2
-      (subst (Seen locals) (sym h.1) seen)))))
-  stmt_counted port (tree.While condition body) locals names store closed seen =
+      (stmt_counts locals other) test.1.traffic (inside (stmt_done setting chosen) test.1)
+      (inside (stmt_done setting other) test.1) h.2
+      (inside_counts (stmt_counts locals chosen) (stmt_done setting chosen) test.1
+      (stmt_counted setting chosen locals names test.1 sides.0
+      (subst (Seen setting.fields locals) (sym h.1) seen)))
+      (inside_counts (stmt_counts locals other) (stmt_done setting other) test.1
+      (stmt_counted setting other locals names test.1 sides.1
+      (subst (Seen setting.fields locals) (sym h.1) seen)))))
+  stmt_counted setting (tree.While condition body) locals names store closed seen =
       let scope = scope_of store.variables in
-      while_counts scope (expr_counts condition) (stmt_counts locals body) (value_of port condition)
-      (inside (stmt_done port body)) (expr_tests port condition scope)
-      (inside_parts port body names scope (stmt_counts locals body) closed.1
-      (λ s is. stmt_counted port body locals names s closed.1
-      (subst (Seen locals) (sym is) seen))) store refl
-  stmt_counted port (tree.For first condition step body) locals names store closed seen
+      let turn : IsPlain names body = (closed.0.1, closed.1) in
+      while_ok setting condition body store
+      (λ after. Counted (stmt_counts locals (tree.While condition body)) store.traffic
+      after.traffic) closed.1
+      (while_counts scope (expr_counts condition) (stmt_counts locals body)
+      (value_of setting condition)
+      (inside (stmt_done setting body)) (expr_tests setting condition scope)
+      (inside_parts setting body names scope (stmt_counts locals body) turn
+      (λ s is. stmt_counted setting body locals names s turn
+      (subst (Seen setting.fields locals) (sym is) seen))) store refl)
+  stmt_counted setting (tree.For first condition step body) locals names store closed seen
       =
       let scope = names_after (scope_of store.variables) first in
       let inner = locals_after locals first in
       let reported = counted_loop locals first condition step body in
-      let seen_inner : Seen inner scope =
-      seen_after first locals (scope_of store.variables) names closed.0 seen in
+      let parts = plain_parts names first condition step body closed in
+      let seen_inner : Seen setting.fields inner scope =
+      seen_after setting.fields first locals (scope_of store.variables) names parts.0.0 seen in
       let loop : Store → Result Store Cause =
-      looped (suc turn_limit) (condition_value port condition)
-      (λ turn. result_and_then (inside (stmt_done port body) turn)
-      (inside (stmt_done port step))) in
+      looped (suc turn_limit) (condition_value setting condition)
+      (λ turn. result_and_then (inside (stmt_done setting body) turn)
+      (inside (stmt_done setting step))) in
       let x = turns_counts reported (option_counts condition) (stmt_counts inner step)
       (stmt_counts inner body) in
-      inside_counts (sequence (stmt_counts locals first) x)
-      (λ outer. result_and_then (stmt_done port first outer) loop) store
-      (then_ok (stmt_done port first store) loop
-      (λ begun. Counted (stmt_counts locals first) store.traffic begun.traffic
-      × (Done (λ name. stmt_writes name first) scope store.variables begun.variables
-      × IfSome reported (λ l. Known locals first condition step body l
-      × HasValue l.name l.start begun)))
+      for_ok setting first condition step body store
       (λ after. Counted (sequence (stmt_counts locals first) x) store.traffic after.traffic)
-      (both_ok (stmt_done port first store) _ _
-      (stmt_counted port first locals names store closed.0 seen)
-      (both_ok (stmt_done port first store) _ _ (stmt_keeps port first names store closed.0)
-      (begins_by locals first condition step body reported port store seen
+      parts.2.1
+      (inside_counts (sequence (stmt_counts locals first) x)
+      (λ outer. result_and_then (stmt_done setting first outer) loop) store
+      (then_ok (stmt_done setting first store) loop
+      (λ begun. Counted (stmt_counts locals first) store.traffic begun.traffic
+      × (Done setting.fields (λ name. stmt_writes name first) scope store.variables begun.variables
+      × IfSome reported (λ l. Known locals first condition step body l
+      × HasValue setting.fields l.name l.start begun)))
+      (λ after. Counted (sequence (stmt_counts locals first) x) store.traffic after.traffic)
+      (both_ok (stmt_done setting first store) _ _
+      (stmt_counted setting first locals names store parts.0 seen)
+      (both_ok (stmt_done setting first store) _ _
+      (stmt_keeps setting setting.fields (reaches_fields setting) first names store parts.0)
+      (begins_by locals first condition step body reported setting store seen
       (loop_known locals first condition step body))))
       (λ begun h. advance_counts store_traffic store.traffic begun.traffic
       (stmt_counts locals first) x (loop begun) h.0
-      (turns_by locals first condition step body reported port (names_after names first) scope
-      (stmt_counts inner step) (stmt_counts inner body) closed.3
-      (inside_parts port step (names_after names first) scope (stmt_counts inner step) closed.2
-      (λ s is. stmt_counted port step inner (names_after names first) s closed.2
-      (subst (Seen inner) (sym is) seen_inner)))
-      (inside_parts port body (names_after names first) scope (stmt_counts inner body) closed.3
-      (λ s is. stmt_counted port body inner (names_after names first) s closed.3
-      (subst (Seen inner) (sym is) seen_inner)))
-      begun h.1.0.exact h.1.1)))
-  stmt_counted port (tree.Push value) locals names store closed seen =
-      plain_value port value store _ (Some one_push)
-      (λ given. then_ok (pushed_to port given.0 given.1.traffic) _
+      (turns_by locals first condition step body reported setting (names_after names first) scope
+      (stmt_counts inner step) (stmt_counts inner body) parts.2
+      (inside_parts setting step (names_after names first) scope (stmt_counts inner step) parts.1
+      (λ s is. stmt_counted setting step inner (names_after names first) s parts.1
+      (subst (Seen setting.fields inner) (sym is) seen_inner)))
+      (inside_parts setting body (names_after names first) scope (stmt_counts inner body) parts.2
+      (λ s is. stmt_counted setting body inner (names_after names first) s parts.2
+      (subst (Seen setting.fields inner) (sym is) seen_inner)))
+      begun h.1.0.exact h.1.1))))
+  stmt_counted setting (tree.Push value) locals names store closed seen =
+      plain_value setting value store _ (Some one_push)
+      (λ given. then_ok (pushed_to setting.port given.0 given.1.traffic) _
       (λ traffic. Moves given.1.traffic traffic one_push)
       (λ after. Moves given.1.traffic after.traffic one_push)
-      (push_counts port given.0 given.1.traffic) (λ traffic h. h))
-  stmt_counted port (tree.Print value) locals names store closed seen =
-      still_value port value store _ (λ x before given h.
+      (push_counts setting given.0 given.1.traffic) (λ traffic h. h))
+  stmt_counted setting (tree.Print value) locals names store closed seen =
+      still_value setting value store _ (λ x before given h.
       printed_counted x before given.1.traffic _ refl refl h)
-  stmt_counted port (tree.Println value) locals names store closed seen =
-      still_value port value store _ (λ x before given h.
+  stmt_counted setting (tree.Println value) locals names store closed seen =
+      still_value setting value store _ (λ x before given h.
       printed_counted x before given.1.traffic _ refl refl h)
 
-  pub stmts_counted : (port : Port) (s : tree.Stmts) (locals : Locals) (names : Scope)
-      (store : Store) → AreClosed names s → Seen locals (scope_of store.variables)
-      → CountedOk store_traffic (stmts_counts locals s) store.traffic (stmts_done port s store)
-  stmts_counted port tree.Done locals names store closed seen = stays store.traffic
-  stmts_counted port (tree.Then first rest) locals names store closed seen =
+  pub stmts_counted : (setting : Setting) (s : tree.Stmts) (locals : Locals) (names : Scope)
+      (store : Store) → ArePlain names s → Seen setting.fields locals (scope_of store.variables)
+      → CountedOk store_traffic (stmts_counts locals s) store.traffic (stmts_done setting s store)
+  stmts_counted setting tree.Done locals names store closed seen = stays store.traffic
+  stmts_counted setting (tree.Then first rest) locals names store closed seen =
       let scope = names_after (scope_of store.variables) first in
-      then_ok (stmt_done port first store) (stmts_done port rest)
+      let parts = plain_then names first rest closed in
+      block_ok setting first rest store
+      (λ after. Counted (stmts_counts locals (tree.Then first rest)) store.traffic after.traffic)
+      parts.0.1
+      (then_ok (stmt_done setting first store) (stmts_done setting rest)
       (λ middle. Counted (stmt_counts locals first) store.traffic middle.traffic
-      × Done (λ name. stmt_writes name first) scope store.variables middle.variables)
+      × Done setting.fields (λ name. stmt_writes name first) scope store.variables middle.variables)
       (λ after. Counted (stmts_counts locals (tree.Then first rest)) store.traffic
       after.traffic)
-      (both_ok (stmt_done port first store) _ _
-      (stmt_counted port first locals names store closed.0 seen)
-      (stmt_keeps port first names store closed.0))
+      (both_ok (stmt_done setting first store) _ _
+      (stmt_counted setting first locals names store parts.0 seen)
+      (stmt_keeps setting setting.fields (reaches_fields setting) first names store parts.0))
       (λ middle h. advance_counts store_traffic store.traffic middle.traffic
       (stmt_counts locals first) (stmts_counts (locals_after locals first) rest)
-      (stmts_done port rest middle) h.0
-      (stmts_counted port rest (locals_after locals first) (names_after names first) middle closed.1
-      (subst (Seen (locals_after locals first)) (sym h.1.exact)
-      (seen_after first locals (scope_of store.variables) names closed.0 seen))))
+      (stmts_done setting rest middle) h.0
+      (stmts_counted setting rest (locals_after locals first)
+      (names_after names first) middle parts.1
+      (subst (Seen setting.fields (locals_after locals first)) (sym h.1.exact)
+      (seen_after setting.fields first locals (scope_of store.variables) names parts.0.0 seen)))))

@@ -19,7 +19,7 @@ use Rattle.strc_rate.specs.Peeks.{PeekSite, Reached, NoRun, PopInterval, pops_of
 use Rattle.strc_rate.specs.Peeks.{in_turns}
 use Rattle.strc_rate.specs.Peeks.{site_in_turns, unreached, sides_sites, right_sites, some_turns}
 use Rattle.strc_rate.specs.Peeks.{turns_sites, expr_sites, option_sites, variables_sites}
-use Rattle.strc_rate.specs.Peeks.{stmt_sites, stmts_sites}
+use Rattle.strc_rate.specs.Peeks.{arguments_sites, stmt_sites, stmts_sites}
 
 -- sums of pops may be saturated in either order
 in_either_order : (high first second : ℕ) → saturated (saturated (high + first) + second)
@@ -99,51 +99,66 @@ module _ (turns : ℕ) (counts : Option Counts) where
   turns_moved (Some loop) parts parts' body body' peeks e f =
       some_moved loop.turns (body loop) (body' loop) peeks (f loop)
 
-  -- an expression's peeks
-  expr_moved : (e : tree.Expr) (intervals : Intervals) (popped : PopInterval)
-      → expr_sites intervals (later popped) e ≡ moved (expr_sites intervals popped e)
-  expr_moved (tree.Number value) intervals popped = refl
-  expr_moved (tree.Truth value) intervals popped = refl
-  expr_moved (tree.Read name) intervals popped = refl
-  expr_moved (tree.Element name index) intervals popped = expr_moved index intervals popped
-  expr_moved tree.Pop intervals popped = refl
-  expr_moved (tree.Peek index) intervals popped =
-      two_moved (expr_sites intervals popped index)
-      (Reached (interval_of intervals index) (advance popped (expr_counts index)) ∷ [])
-      (expr_sites intervals (later popped) index)
-      (Reached (interval_of intervals index) (advance (later popped) (expr_counts index)) ∷ [])
-      (expr_moved index intervals popped)
-      (ap (λ p. Reached (interval_of intervals index) p ∷ [])
-      (advance_later popped (expr_counts index)))
-  expr_moved (tree.Call name arguments) intervals popped = refl
-  expr_moved (tree.Group inner) intervals popped = expr_moved inner intervals popped
-  expr_moved (tree.Unary operator operand) intervals popped = expr_moved operand intervals popped
-  expr_moved (tree.Step operator name) intervals popped = refl
-  expr_moved (tree.StepElement operator name index) intervals popped =
-      expr_moved index intervals popped
-  expr_moved (tree.Binary operator left right) intervals popped =
-      let passed = expr_counts left in
-      let right_is : expr_sites intervals (advance (later popped) passed) right
-      ≡ moved (expr_sites intervals (advance popped passed) right) =
-      ap (λ p. expr_sites intervals p right) (advance_later popped passed)
-      ∙ expr_moved right intervals (advance popped passed) in
-      two_moved (expr_sites intervals popped left) _ (expr_sites intervals (later popped) left) _
-      (expr_moved left intervals popped)
-      (right_moved (need_of operator left) _ _ (peeks_of_expr right) right_is)
-  expr_moved (tree.Conditional condition chosen other) intervals popped =
-      let passed = expr_counts condition in
-      let chosen_is : expr_sites intervals (advance (later popped) passed) chosen
-      ≡ moved (expr_sites intervals (advance popped passed) chosen) =
-      ap (λ p. expr_sites intervals p chosen) (advance_later popped passed)
-      ∙ expr_moved chosen intervals (advance popped passed) in
-      let other_is : expr_sites intervals (advance (later popped) passed) other
-      ≡ moved (expr_sites intervals (advance popped passed) other) =
-      ap (λ p. expr_sites intervals p other) (advance_later popped passed)
-      ∙ expr_moved other intervals (advance popped passed) in
-      two_moved (expr_sites intervals popped condition) _
-      (expr_sites intervals (later popped) condition) _ (expr_moved condition intervals popped)
-      (sides_moved (constant condition) _ _ _ _ (peeks_of_expr chosen) (peeks_of_expr other)
-      chosen_is other_is)
+  mutual
+    -- an expression's peeks
+    expr_moved : (e : tree.Expr) (intervals : Intervals) (popped : PopInterval)
+        → expr_sites intervals (later popped) e ≡ moved (expr_sites intervals popped e)
+    expr_moved (tree.Number value) intervals popped = refl
+    expr_moved (tree.Truth value) intervals popped = refl
+    expr_moved (tree.Read name) intervals popped = refl
+    expr_moved (tree.Element name index) intervals popped = expr_moved index intervals popped
+    expr_moved tree.Pop intervals popped = refl
+    expr_moved (tree.Peek index) intervals popped =
+        two_moved (expr_sites intervals popped index)
+        (Reached (interval_of intervals index) (advance popped (expr_counts index)) ∷ [])
+        (expr_sites intervals (later popped) index)
+        (Reached (interval_of intervals index) (advance (later popped) (expr_counts index)) ∷ [])
+        (expr_moved index intervals popped)
+        (ap (λ p. Reached (interval_of intervals index) p ∷ [])
+        (advance_later popped (expr_counts index)))
+    expr_moved (tree.Call name arguments) intervals popped =
+        arguments_moved arguments intervals popped
+    expr_moved (tree.Group inner) intervals popped = expr_moved inner intervals popped
+    expr_moved (tree.Unary operator operand) intervals popped = expr_moved operand intervals popped
+    expr_moved (tree.Step operator name) intervals popped = refl
+    expr_moved (tree.StepElement operator name index) intervals popped =
+        expr_moved index intervals popped
+    expr_moved (tree.Binary operator left right) intervals popped =
+        let passed = expr_counts left in
+        let right_is : expr_sites intervals (advance (later popped) passed) right
+        ≡ moved (expr_sites intervals (advance popped passed) right) =
+        ap (λ p. expr_sites intervals p right) (advance_later popped passed)
+        ∙ expr_moved right intervals (advance popped passed) in
+        two_moved (expr_sites intervals popped left) _ (expr_sites intervals (later popped) left) _
+        (expr_moved left intervals popped)
+        (right_moved (need_of operator left) _ _ (peeks_of_expr right) right_is)
+    expr_moved (tree.Conditional condition chosen other) intervals popped =
+        let passed = expr_counts condition in
+        let chosen_is : expr_sites intervals (advance (later popped) passed) chosen
+        ≡ moved (expr_sites intervals (advance popped passed) chosen) =
+        ap (λ p. expr_sites intervals p chosen) (advance_later popped passed)
+        ∙ expr_moved chosen intervals (advance popped passed) in
+        let other_is : expr_sites intervals (advance (later popped) passed) other
+        ≡ moved (expr_sites intervals (advance popped passed) other) =
+        ap (λ p. expr_sites intervals p other) (advance_later popped passed)
+        ∙ expr_moved other intervals (advance popped passed) in
+        two_moved (expr_sites intervals popped condition) _
+        (expr_sites intervals (later popped) condition) _ (expr_moved condition intervals popped)
+        (sides_moved (constant condition) _ _ _ _ (peeks_of_expr chosen) (peeks_of_expr other)
+        chosen_is other_is)
+
+    arguments_moved : (arguments : tree.Arguments) (intervals : Intervals) (popped : PopInterval)
+        → arguments_sites intervals (later popped) arguments
+        ≡ moved (arguments_sites intervals popped arguments)
+    arguments_moved tree.NoArgument intervals popped = refl
+    arguments_moved (tree.Argument first rest) intervals popped =
+        let passed = expr_counts first in
+        let rest_is : arguments_sites intervals (advance (later popped) passed) rest
+        ≡ moved (arguments_sites intervals (advance popped passed) rest) =
+        ap (λ p. arguments_sites intervals p rest) (advance_later popped passed)
+        ∙ arguments_moved rest intervals (advance popped passed) in
+        two_moved (expr_sites intervals popped first) _
+        (expr_sites intervals (later popped) first) _ (expr_moved first intervals popped) rest_is
 
   option_moved : (value : Option tree.Expr) (intervals : Intervals) (popped : PopInterval)
       → option_sites intervals (later popped) value ≡ moved (option_sites intervals popped value)

@@ -2,7 +2,8 @@
 use Rattle.std.proofs.Common.{◌≡◌, sym, ap, ◌∙◌, List, ◌∷◌, ◌++◌, append_assoc}
 use Rattle.std.proofs.lemmas.List.{map-append}
 use Rattle.strc_syntax.specs.Tree as tree
-use Rattle.strc_rate.specs.Entries.{peeks_of_option, peeks_of_variables, peeks_of_stmt, peeks_of}
+use Rattle.strc_rate.specs.Entries.{peeks_of_expr, peeks_of_arguments, peeks_of_option}
+use Rattle.strc_rate.specs.Entries.{peeks_of_variables, peeks_of_stmt, peeks_of}
 use Rattle.strc_rate.specs.Peeks.{PeekSite, NoRun, unreached}
 
 pub unreached-append : (first second : List tree.Expr)
@@ -18,6 +19,19 @@ stmts_unreached so_far next whole x rest all more is left =
     ∙ append_assoc so_far (unreached (peeks_of_stmt x)) (unreached (peeks_of rest))
     ∙ ap (λ s. so_far ++ s) (sym (unreached-append (peeks_of_stmt x) (peeks_of rest)))
     ∙ ap (λ b. so_far ++ unreached (peeks_of b)) (sym is)
+    ∙ left
+
+-- one more argument of a call
+pub arguments_unreached : (so_far next whole : List PeekSite) (x : tree.Expr)
+    (rest all : tree.Arguments) → next ≡ so_far ++ unreached (peeks_of_expr x)
+    → all ≡ tree.Argument x rest → so_far ++ unreached (peeks_of_arguments all) ≡ whole
+    → next ++ unreached (peeks_of_arguments rest) ≡ whole
+arguments_unreached so_far next whole x rest all more is left =
+    ap (λ s. s ++ unreached (peeks_of_arguments rest)) more
+    ∙ append_assoc so_far (unreached (peeks_of_expr x)) (unreached (peeks_of_arguments rest))
+    ∙ ap (λ s. so_far ++ s)
+    (sym (unreached-append (peeks_of_expr x) (peeks_of_arguments rest)))
+    ∙ ap (λ b. so_far ++ unreached (peeks_of_arguments b)) (sym is)
     ∙ left
 
 -- one more variable of a declaration

@@ -1,7 +1,8 @@
 -- A statement leaves the variables that are before it, with the cells of each that its text
 -- doesn't write.
 use Rattle.std.proofs.Common.{◌≡◌, refl, sym, subst, ◌∙◌, ap, ℕ, zero, suc, ◌+◌, ◌≤◌, ℤ, pos, Bool}
-use Rattle.std.proofs.Common.{true, false, cond, ◌&&◌, ◌||◌, not, List, [], ◌∷◌, length, Option}
+use Rattle.std.proofs.Common.{◌-◌, take, true, false, cond, ◌&&◌, ◌||◌, not, List, [], ◌∷◌, length}
+use Rattle.std.proofs.Common.{Option}
 use Rattle.std.proofs.Common.{Some, None, Result, Ok, Err, arith}
 use Rattle.std.specs.Prelude.{bytes_eq, nat_lt}
 use Rattle.std.specs.Result.{IfOk}
@@ -13,8 +14,9 @@ use Rattle.strc_semantics.specs.declared.fault.Cause.{Cause}
 use Rattle.strc_semantics.specs.declared.fault.Cause.TheVariants.{Turns}
 use Rattle.strc_semantics.specs.Arithmetic.{is_true}
 use Rattle.strc_semantics.specs.Scoping.{Scope, is_declared, cells_of, with_declared, names_after}
-use Rattle.strc_semantics.specs.Closed.{FitsInitial, AreClosedVariables, IsClosedStmt, AreClosed}
-use Rattle.strc_semantics.specs.Firing.{Port, Store, Variables, cells_named, declared_in, value_of}
+use Rattle.strc_semantics.specs.Closed.{FitsInitial, AreClosedVariables}
+use Rattle.strc_semantics.specs.Firing.{Setting, Store, Variables, cells_named, declared_in}
+use Rattle.strc_semantics.specs.Firing.{value_of}
 use Rattle.strc_semantics.specs.Firing.{initial_cells, variables_declared, condition_value}
 use Rattle.strc_semantics.specs.Firing.{pushed_to, turned, turn_limit, looped, inside, stmt_done}
 use Rattle.strc_semantics.specs.Firing.{stmts_done}
@@ -23,25 +25,28 @@ use Rattle.strc_interval.specs.Loops.{declares, shadows, expr_writes, option_wri
 use Rattle.strc_interval.specs.Loops.{variables_write, stmt_writes, stmts_write}
 use Rattle.strc_rate.proofs.Results.{or_first, or_second, then_ok, any_ok, below, above}
 use Rattle.strc_rate.proofs.Results.{below_below, below_map, below_all, below_more, above_more}
-use Rattle.strc_rate.proofs.Keeping.{Unwritten, Covers, Given, Same, same_size, same_refl}
+use Rattle.strc_rate.proofs.Keeping.{Unwritten, Covers, Given, IsInner, Same, same_size, same_refl}
+use Rattle.strc_rate.proofs.Keeping.{Reaches}
+use Rattle.strc_rate.proofs.Unreturned.{while_ok, for_ok, block_ok}
+use Rattle.strc_rate.proofs.Unreturned.{IsPlain, ArePlain, plain_sides, plain_parts, plain_then}
 use Rattle.strc_rate.proofs.Keeping.{same_holding, same_then, value_holds, condition_holds}
 use Rattle.strc_rate.proofs.Keeping.{assigned_holds, element_assigned_holds}
 
 -- perhaps more variables, the others with as many cells, and with the same cells of each that isn't
 -- written
-pub record Grown (writes : List ℕ → Bool) (before after : Variables) : Type 0 where
+pub record Grown (fields : ℕ) (writes : List ℕ → Bool) (before after : Variables) : Type 0 where
   pub more : length before ≤ length after
   pub shape : below (length before) (scope_of after) ≡ scope_of before
-  pub cells : (n : ℕ) (name : List ℕ) → n ≤ length before
+  pub cells : (n : ℕ) (name : List ℕ) → n ≤ length before → IsInner fields n (scope_of before) name
       → Unwritten (above n (scope_of before)) name (writes name)
       → cells_named (below n after) name ≡ cells_named (below n before) name
 
 pub scope_length : (variables : Variables) → length (scope_of variables) ≡ length variables
 scope_length variables = length-map variables _
 
-pub grown_same : (writes : List ℕ → Bool) (before after : Variables) → Same writes before after
-    → Grown writes before after
-grown_same writes before after h =
+pub grown_same : (fields : ℕ) (writes : List ℕ → Bool) (before after : Variables)
+    → Same fields writes before after → Grown fields writes before after
+grown_same fields writes before after h =
     let size : length after ≡ length before = same_size before after h.shape in
     record {
       more = omega arith;
@@ -52,15 +57,15 @@ grown_same writes before after h =
     }
 
 -- a block's own variables are forgotten
-pub left_same : (writes : List ℕ → Bool) (before after : Variables) → Grown writes before after
-    → Same writes before (below (length before) after)
-left_same writes before after h =
+pub left_same : (fields : ℕ) (writes : List ℕ → Bool) (before after : Variables)
+    → Grown fields writes before after → Same fields writes before (below (length before) after)
+left_same fields writes before after h =
     let more : length before ≤ length after = h.more in
     record {
       shape = sym (below_map (λ v. record { 0 = v.0; 1 = length v.1 }) (length before) after)
           ∙ h.shape;
-      cells = λ n name le unwritten. ap (λ v. cells_named v name)
-          (below_below n (length before) after le more) ∙ h.cells n name le unwritten;
+      cells = λ n name le inner unwritten. ap (λ v. cells_named v name)
+          (below_below n (length before) after le more) ∙ h.cells n name le inner unwritten;
     }
 
 -- what isn't declared after a part isn't before it, and that part doesn't shadow it
@@ -69,10 +74,12 @@ Bares shadows before after =
     (n : ℕ) (name : List ℕ) → n ≤ length before → is_declared (above n after) name ≡ false
     → (is_declared (above n before) name ≡ false) × (shadows name ≡ false)
 
-grown_then : (writes first rest shadows : List ℕ → Bool) (a b c : Variables) → Covers writes first
+grown_then : (fields : ℕ) (writes first rest shadows : List ℕ → Bool) (a b c : Variables)
+    → Covers writes first
     → ((name : List ℕ) → writes name ≡ false → shadows name ≡ false → rest name ≡ false)
-    → Bares shadows (scope_of a) (scope_of b) → Grown first a b → Grown rest b c → Grown writes a c
-grown_then writes first rest shadows a b c covers advance bares h k =
+    → Bares shadows (scope_of a) (scope_of b) → Grown fields first a b → Grown fields rest b c
+    → Grown fields writes a c
+grown_then fields writes first rest shadows a b c covers advance bares h k =
     let more : length a ≤ length b = h.more in
     let most : length b ≤ length c = k.more in
     let size_c : length (scope_of c) ≡ length c = scope_length c in
@@ -80,17 +87,22 @@ grown_then writes first rest shadows a b c covers advance bares h k =
       more = omega arith;
       shape = sym (below_below (length a) (length b) (scope_of c) more (omega arith))
           ∙ (ap (below (length a)) k.shape ∙ h.shape);
-      cells = λ n name le unwritten.
-          k.cells n name (omega arith) (λ bare. let none =
+      cells = λ n name le inner unwritten.
+          let same : below n (scope_of b) ≡ below n (scope_of a) =
+          sym (below_below n (length a) (scope_of b) le (omega (arith, scope_length b)))
+          ∙ ap (below n) h.shape in
+          k.cells n name (omega arith) (ap (λ s. is_declared (take (n - fields) s) name) same
+          ∙ inner) (λ bare. let none =
           bares n name
           (omega (arith, scope_length a)) bare in
           advance name (unwritten none.0) none.1)
-          ∙ h.cells n name le (λ bare. covers name (unwritten bare));
+          ∙ h.cells n name le inner (λ bare. covers name (unwritten bare));
     }
 
-same_bares : (writes : List ℕ → Bool) (before after : Variables) → Same writes before after
+same_bares : (fields : ℕ) (writes : List ℕ → Bool) (before after : Variables)
+    → Same fields writes before after
     → Bares (λ name. false) (scope_of before) (scope_of after)
-same_bares writes before after h n name le bare =
+same_bares fields writes before after h n name le bare =
     (sym (ap (λ s. is_declared (above n s) name) h.shape) ∙ bare, refl)
 
 -- one more variable
@@ -143,77 +155,84 @@ unless_shadowed false written e h = e
 -- ---- declarations
 
 -- the cells of a new variable, and a store with the same variables
-initial_same : (port : Port) (cells : ℕ) (initial : Option tree.Expr) (store : Store)
-    → FitsInitial cells initial → IfOk (initial_cells port cells initial store)
-    (λ given. (length given.0 ≡ cells) × Same
+initial_same : (setting : Setting) (fields : ℕ) (reach : Reaches setting fields) (cells : ℕ)
+    (initial : Option tree.Expr) (store : Store)
+    → FitsInitial cells initial → IfOk (initial_cells setting cells initial store)
+    (λ given. (length given.0 ≡ cells) × Same fields
     (λ name. option_writes name initial) store.variables given.1.variables)
-initial_same port cells None store fits =
-    (length-replicate cells (pos 0), same_refl _ store.variables)
-initial_same port cells (Some initial) store fits =
-    then_ok (value_of port initial store) _
-    (λ given. Same (λ name. expr_writes name initial) store.variables given.1.variables)
+initial_same setting fields reach cells None store fits =
+    (length-replicate cells (pos 0), same_refl fields _ store.variables)
+initial_same setting fields reach cells (Some initial) store fits =
+    then_ok (value_of setting initial store) _
+    (λ given. Same fields (λ name. expr_writes name initial) store.variables given.1.variables)
     (λ given. (length given.0 ≡ cells)
-    × Same (λ name. expr_writes name initial) store.variables given.1.variables)
-    (value_holds (λ s. Same (λ name. expr_writes name initial) store.variables s.variables)
-    (λ name. expr_writes name initial) (same_holding _ store.variables) port initial store
-    (λ name e. e) (same_refl _ store.variables))
+    × Same fields (λ name. expr_writes name initial) store.variables given.1.variables)
+    (value_holds setting (λ s. Same fields (λ name. expr_writes name initial) store.variables
+    s.variables) (λ name. expr_writes name initial)
+    (same_holding setting fields reach _ store.variables) initial
+    store (λ name e. e) (same_refl fields _ store.variables))
     (λ given h. (sym fits, h))
 
 -- one more variable, before which nothing changes
-declared_grown : (name : List ℕ) (cells : List ℤ) (variables : Variables)
-    → Grown (λ other. false) variables (record { 0 = name; 1 = cells } ∷ variables)
-declared_grown name cells variables = record {
+declared_grown : (fields : ℕ) (name : List ℕ) (cells : List ℤ) (variables : Variables)
+    → Grown fields (λ other. false) variables (record { 0 = name; 1 = cells } ∷ variables)
+declared_grown fields name cells variables = record {
   more = omega arith;
   shape =
       below_more (length variables) (record { 0 = name; 1 = length cells }) (scope_of variables)
       (omega (arith, scope_length variables))
       ∙ (ap (λ k. below k (scope_of variables)) (sym (scope_length variables))
       ∙ below_all (scope_of variables));
-  cells = λ n other le unwritten. ap (λ v. cells_named v other)
+  cells = λ n other le inner unwritten. ap (λ v. cells_named v other)
       (below_more n (record { 0 = name; 1 = cells }) variables le);
 }
 
 -- what a statement leaves, and the variables that can be seen after it
-pub record Done (writes : List ℕ → Bool) (scope : Scope) (before after : Variables) : Type 0 where
-  pub grown : Grown writes before after
+pub record Done (fields : ℕ) (writes : List ℕ → Bool) (scope : Scope)
+    (before after : Variables) : Type 0 where
+  pub grown : Grown fields writes before after
   pub exact : scope_of after ≡ scope
 
-variables_keep : (port : Port) (cells : ℕ) (variables : List tree.Variable) (names : Scope)
+variables_keep : (setting : Setting) (fields : ℕ) (reach : Reaches setting fields) (cells : ℕ)
+    (variables : List tree.Variable) (names : Scope)
     (store : Store) → AreClosedVariables names cells variables
-    → IfOk (variables_declared port cells variables store)
-    (λ after. Done (λ name. variables_write name variables)
+    → IfOk (variables_declared setting cells variables store)
+    (λ after. Done fields (λ name. variables_write name variables)
     (with_declared (scope_of store.variables) cells variables) store.variables after.variables)
-variables_keep port cells [] names store closed =
+variables_keep setting fields reach cells [] names store closed =
     record {
-      grown = grown_same _ store.variables store.variables (same_refl _ store.variables);
+      grown = grown_same fields _ store.variables store.variables
+          (same_refl fields _ store.variables);
       exact = refl;
     }
-variables_keep port cells (first ∷ rest) names store closed =
-    then_ok (initial_cells port cells first.initial store) _
+variables_keep setting fields reach cells (first ∷ rest) names store closed =
+    then_ok (initial_cells setting cells first.initial store) _
     (λ given. (length given.0 ≡ cells)
-    × Same (λ name. option_writes name first.initial) store.variables given.1.variables)
-    (λ after. Done (λ name. variables_write name (first ∷ rest))
+    × Same fields (λ name. option_writes name first.initial) store.variables given.1.variables)
+    (λ after. Done fields (λ name. variables_write name (first ∷ rest))
     (with_declared (scope_of store.variables) cells (first ∷ rest)) store.variables
     after.variables)
-    (initial_same port cells first.initial store closed.1)
+    (initial_same setting fields reach cells first.initial store closed.1)
     (λ given h.
     let begun = declared_in given.1 first.name given.0 in
     let begins : scope_of begun.variables ≡ record { 0 = first.name; 1 = cells }
     ∷ scope_of store.variables =
     ap (λ k. record { 0 = first.name; 1 = k } ∷ scope_of given.1.variables) h.0
     ∙ ap (λ s. record { 0 = first.name; 1 = cells } ∷ s) h.1.shape in
-    let here : Grown (λ name. option_writes name first.initial) store.variables begun.variables =
-    grown_then (λ name. option_writes name first.initial) (λ name. option_writes name first.initial)
+    let here : Grown fields (λ name. option_writes name first.initial) store.variables
+    begun.variables =
+    grown_then fields (λ name. option_writes name first.initial)
+    (λ name. option_writes name first.initial)
     (λ name. false) (λ name. false) store.variables given.1.variables begun.variables
-    (λ name e. e) (λ name e f. refl) (same_bares _ store.variables given.1.variables h.1)
-    (grown_same _ store.variables given.1.variables h.1)
-    (declared_grown first.name given.0 given.1.variables) in
-    IfOk-weaker (variables_declared port cells rest begun)
-    (λ after. Done (λ name. variables_write name rest)
+    (λ name e. e) (λ name e f. refl) (same_bares fields _ store.variables given.1.variables h.1)
+    (grown_same fields _ store.variables given.1.variables h.1)
+    (declared_grown fields first.name given.0 given.1.variables) in
+    IfOk-weaker (variables_declared setting cells rest begun)
+    (λ after. Done fields (λ name. variables_write name rest)
     (with_declared (scope_of begun.variables) cells rest) begun.variables after.variables) _
     (λ after k. record {
       grown =
-          grown_then (λ name. variables_write name (first ∷ rest))
+          grown_then fields (λ name. variables_write name (first ∷ rest))
           (λ name. option_writes name first.initial) (λ name. variables_write name rest)
           (λ name. bytes_eq first.name name) store.variables begun.variables after.variables
           (λ name e. or_first (option_writes name first.initial) _ e)
@@ -223,7 +242,8 @@ variables_keep port cells (first ∷ rest) names store closed =
           (more_bares (scope_of store.variables) first.name cells)) here k.grown;
       exact = k.exact ∙ ap (λ s. with_declared s cells rest) begins;
     })
-    (variables_keep port cells rest (record { 0 = first.name; 1 = cells } ∷ names) begun closed.2))
+    (variables_keep setting fields reach cells rest
+    (record { 0 = first.name; 1 = cells } ∷ names) begun closed.2))
 
 -- ---- statements
 
@@ -266,45 +286,51 @@ looped_holds P free (suc fuel) test body tests turns store h =
     (λ next m. looped_holds P free fuel test body tests turns next m)
     (is_true tested.0) tested.1 k)
 
-same_weaker : (wide narrow : List ℕ → Bool) (before after : Variables) → Covers wide narrow
-    → Same narrow before after → Same wide before after
-same_weaker wide narrow before after covers h = record {
+same_weaker : (fields : ℕ) (wide narrow : List ℕ → Bool) (before after : Variables)
+    → Covers wide narrow → Same fields narrow before after → Same fields wide before after
+same_weaker fields wide narrow before after covers h = record {
   shape = h.shape;
-  cells = λ n name le unwritten. h.cells n name le (λ bare. covers name (unwritten bare));
+  cells = λ n name le inner unwritten. h.cells n name le inner
+      (λ bare. covers name (unwritten bare));
 }
 
 -- a statement in a scope of its own
-pub inside_same : (wide narrow : List ℕ → Bool) (does : Store → Result Store Cause) (store : Store)
-    → Covers wide narrow → IfOk (does store) (λ after. Grown narrow store.variables after.variables)
-    → IfOk (inside does store) (λ after. Same wide store.variables after.variables)
-inside_same wide narrow does store covers h =
-    then_ok (does store) _ (λ after. Grown narrow store.variables after.variables)
-    (λ after. Same wide store.variables after.variables) h
-    (λ inner k. same_weaker wide narrow store.variables
+pub inside_same : (fields : ℕ) (wide narrow : List ℕ → Bool) (does : Store → Result Store Cause)
+    (store : Store)
+    → Covers wide narrow → IfOk (does store) (λ after. Grown fields narrow store.variables
+    after.variables)
+    → IfOk (inside does store) (λ after. Same fields wide store.variables after.variables)
+inside_same fields wide narrow does store covers h =
+    then_ok (does store) _ (λ after. Grown fields narrow store.variables after.variables)
+    (λ after. Same fields wide store.variables after.variables) h
+    (λ inner k. same_weaker fields wide narrow store.variables
     (below (length store.variables) inner.variables) covers
-    (left_same narrow store.variables inner.variables k))
+    (left_same fields narrow store.variables inner.variables k))
 
 -- the same, after a part that leaves the variables
-pub inside_after : (wide narrow : List ℕ → Bool) (scope : Scope) (before : Variables)
+pub inside_after : (fields : ℕ) (wide narrow : List ℕ → Bool) (scope : Scope) (before : Variables)
     (does : Store → Result Store Cause) (store : Store) → Covers wide narrow
-    → IfOk (does store) (λ after. Done narrow scope store.variables after.variables)
-    → Same wide before store.variables → IfOk (inside does store)
-    (λ after. Same wide before after.variables)
-inside_after wide narrow scope before does store covers h so_far =
-    IfOk-weaker (inside does store) (λ after. Same wide store.variables after.variables) _
-    (λ after k. same_then wide before store.variables after.variables so_far k)
-    (inside_same wide narrow does store covers
-    (IfOk-weaker (does store) (λ after. Done narrow scope store.variables after.variables) _
+    → IfOk (does store) (λ after. Done fields narrow scope store.variables after.variables)
+    → Same fields wide before store.variables → IfOk (inside does store)
+    (λ after. Same fields wide before after.variables)
+inside_after fields wide narrow scope before does store covers h so_far =
+    IfOk-weaker (inside does store) (λ after. Same fields wide store.variables after.variables) _
+    (λ after k. same_then fields wide before store.variables after.variables so_far k)
+    (inside_same fields wide narrow does store covers
+    (IfOk-weaker (does store) (λ after. Done fields narrow scope store.variables after.variables) _
     (λ after k. k.grown) h))
 
 -- a statement that declares nothing
-plain : (writes : List ℕ → Bool) (before : Variables) (result : Result Store Cause)
-    → IfOk result (λ after. Same writes before after.variables)
-    → IfOk result (λ after. Done writes (scope_of before) before after.variables)
-plain writes before result h =
-    IfOk-weaker result (λ after. Same writes before after.variables) _
-    (λ after k. record { grown = grown_same writes before after.variables k; exact = k.shape })
-    h
+plain : (fields : ℕ) (writes : List ℕ → Bool) (before : Variables) (result : Result Store Cause)
+    → IfOk result (λ after. Same fields writes before after.variables)
+    → IfOk result (λ after. Done fields writes (scope_of before) before after.variables)
+plain fields writes before result h =
+    IfOk-weaker result (λ after. Same fields writes before after.variables) _
+    (λ after k. record {
+      grown = grown_same fields writes before after.variables k;
+      exact =
+          k.shape;
+    }) h
 
 branch_holds : (P : Store → Type 0) (test : Bool) (one other : Result Store Cause) → IfOk one P
     → IfOk other P → IfOk (cond test one other) P
@@ -312,173 +338,188 @@ branch_holds P true one other h k = h
 branch_holds P false one other h k = k
 
 -- a value that is used without a change of the variables
-used_same : (port : Port) (e : tree.Expr) (store : Store) (go : ℤ × Store → Result Store Cause)
+used_same : (setting : Setting) (fields : ℕ) (reach : Reaches setting fields) (e : tree.Expr)
+    (store : Store) (go : ℤ × Store → Result Store Cause)
     → ((given : ℤ × Store) → IfOk (go given) (λ after. after.variables ≡ given.1.variables))
-    → IfOk (result_and_then (value_of port e store) go)
-    (λ after. Same (λ name. expr_writes name e) store.variables after.variables)
-used_same port e store go stays =
-    then_ok (value_of port e store) go (λ given. Same
+    → IfOk (result_and_then (value_of setting e store) go)
+    (λ after. Same fields (λ name. expr_writes name e) store.variables after.variables)
+used_same setting fields reach e store go stays =
+    then_ok (value_of setting e store) go (λ given. Same fields
     (λ name. expr_writes name e) store.variables given.1.variables)
-    (λ after. Same (λ name. expr_writes name e) store.variables after.variables)
-    (value_holds (λ s. Same (λ name. expr_writes name e) store.variables s.variables)
-    (λ name. expr_writes name e) (same_holding _ store.variables) port e store (λ name f. f)
-    (same_refl _ store.variables))
+    (λ after. Same fields (λ name. expr_writes name e) store.variables after.variables)
+    (value_holds setting (λ s. Same fields (λ name. expr_writes name e) store.variables s.variables)
+    (λ name. expr_writes name e) (same_holding setting fields reach _ store.variables) e store
+    (λ name f. f) (same_refl fields _ store.variables))
     (λ given h. IfOk-weaker (go given) (λ after. after.variables ≡ given.1.variables) _
-    (λ after is. subst (Same (λ name. expr_writes name e) store.variables) (sym is) h)
+    (λ after is. subst (Same fields (λ name. expr_writes name e) store.variables) (sym is) h)
     (stays given))
 
 -- the turns of a `for`
-turns_same : (port : Port) (condition : Option tree.Expr)
+turns_same : (setting : Setting) (fields : ℕ) (reach : Reaches setting fields)
+    (condition : Option tree.Expr)
     (writes step_writes body_writes : List ℕ → Bool) (step body : Store → Result Store Cause)
     (scope : Store → Scope) (scope' : Store → Scope)
     → Covers writes (λ name. option_writes name condition) → Covers writes step_writes
     → Covers writes body_writes → ((store : Store)
-    → IfOk (step store) (λ after. Done step_writes (scope store) store.variables after.variables))
-    → ((store : Store) → IfOk (body store)
-    (λ after. Done body_writes (scope' store) store.variables after.variables)) → (store : Store)
-    → IfOk (looped (suc turn_limit) (condition_value port condition)
+    → IfOk (step store) (λ after. Done fields step_writes
+    (scope store) store.variables after.variables)) → ((store : Store) → IfOk (body store)
+    (λ after. Done fields body_writes (scope' store) store.variables after.variables))
+    → (store : Store) → IfOk (looped (suc turn_limit) (condition_value setting condition)
     (λ turn. result_and_then (inside body turn) (inside step)) store)
-    (λ after. Same writes store.variables after.variables)
-turns_same port condition writes step_writes body_writes step body scope scope' covers covers_step
-    covers_body steps bodies store =
-    looped_holds (λ s. Same writes store.variables s.variables) (λ s n h. h) (suc turn_limit)
-    (condition_value port condition) (λ turn. result_and_then (inside body turn) (inside step))
-    (λ s h. condition_holds (λ t. Same writes store.variables t.variables) writes
-    (same_holding writes store.variables) port condition s covers h)
+    (λ after. Same fields writes store.variables after.variables)
+turns_same setting fields reach condition writes step_writes body_writes step body scope scope'
+    covers covers_step covers_body steps bodies store =
+    looped_holds (λ s. Same fields writes store.variables s.variables) (λ s n h. h) (suc turn_limit)
+    (condition_value setting condition) (λ turn. result_and_then (inside body turn) (inside step))
+    (λ s h. condition_holds setting (λ t. Same fields writes store.variables t.variables) writes
+    (same_holding setting fields reach writes store.variables) condition s covers h)
     (λ s h.
-    then_ok (inside body s) (inside step) (λ after. Same writes store.variables after.variables)
-    (λ after. Same writes store.variables after.variables)
-    (inside_after writes body_writes (scope' s) store.variables body s covers_body (bodies s) h)
-    (λ middle k. inside_after writes step_writes
+    then_ok (inside body s) (inside step) (λ after. Same fields writes store.variables
+    after.variables) (λ after. Same fields writes store.variables after.variables)
+    (inside_after fields writes body_writes (scope' s) store.variables body s covers_body
+    (bodies s) h) (λ middle k. inside_after fields writes step_writes
     (scope middle) store.variables step middle covers_step (steps middle) k))
-    store (same_refl writes store.variables)
+    store (same_refl fields writes store.variables)
 
 mutual
   -- a statement of known names leaves its variables, and keeps the cells of those that it doesn't
   -- write
-  pub stmt_keeps : (port : Port) (s : tree.Stmt) (names : Scope) (store : Store)
-      → IsClosedStmt names s → IfOk (stmt_done port s store)
-      (λ after. Done (λ name. stmt_writes name s)
+  pub stmt_keeps : (setting : Setting) (fields : ℕ) (reach : Reaches setting fields) (s : tree.Stmt)
+      (names : Scope) (store : Store) → IsPlain names s → IfOk (stmt_done setting s store)
+      (λ after. Done fields (λ name. stmt_writes name s)
       (names_after (scope_of store.variables) s) store.variables after.variables)
-  stmt_keeps port tree.Empty names store closed =
+  stmt_keeps setting fields reach tree.Empty names store closed =
       record {
-        grown = grown_same _ store.variables store.variables (same_refl _ store.variables);
+        grown = grown_same fields _ store.variables store.variables
+            (same_refl fields _ store.variables);
         exact = refl;
       }
-  stmt_keeps port (tree.Return value) names store closed =
+  stmt_keeps setting fields reach (tree.Return value) names store closed =
+      let returned : true ≡ false = closed.1 in absurd (cc)
+  stmt_keeps setting fields reach (tree.Compose statement) names store closed =
       record {
-        grown = grown_same _ store.variables store.variables (same_refl _ store.variables);
+        grown = grown_same fields _ store.variables store.variables
+            (same_refl fields _ store.variables);
         exact = refl;
       }
-  stmt_keeps port (tree.Compose statement) names store closed =
-      record {
-        grown = grown_same _ store.variables store.variables (same_refl _ store.variables);
-        exact = refl;
-      }
-  stmt_keeps port (tree.Block body) names store closed =
-      plain (λ name. stmts_write name body) store.variables (inside (stmts_done port body) store)
-      (inside_same (λ name. stmts_write name body) (λ name. stmts_write name body)
-      (stmts_done port body) store (λ name e. e) (stmts_keep port body names store closed))
-  stmt_keeps port (tree.Declare kind variables) names store closed =
-      variables_keep port (cells_of kind) variables names store closed
-  stmt_keeps port (tree.Evaluate value) names store closed =
-      plain (λ name. expr_writes name value) store.variables
-      (stmt_done port (tree.Evaluate value) store)
-      (used_same port value store _ (λ given. refl))
-  stmt_keeps port (tree.Assign assigned operator value) names store closed =
-      plain _ store.variables (stmt_done port (tree.Assign assigned operator value) store)
-      (assigned_holds (λ s. Same (λ name. stmt_writes name (tree.Assign assigned operator value))
-      store.variables s.variables) (λ name. stmt_writes name
+  stmt_keeps setting fields reach (tree.Block body) names store closed =
+      plain fields (λ name. stmts_write name body) store.variables
+      (inside (stmts_done setting body) store)
+      (inside_same fields (λ name. stmts_write name body) (λ name. stmts_write name body)
+      (stmts_done setting body) store (λ name e. e)
+      (stmts_keep setting fields reach body names store closed))
+  stmt_keeps setting fields reach (tree.Declare kind variables) names store closed =
+      variables_keep setting fields reach (cells_of kind) variables names store closed.0
+  stmt_keeps setting fields reach (tree.Evaluate value) names store closed =
+      plain fields (λ name. expr_writes name value) store.variables
+      (stmt_done setting (tree.Evaluate value) store)
+      (used_same setting fields reach value store _ (λ given. refl))
+  stmt_keeps setting fields reach (tree.Assign assigned operator value) names store closed =
+      plain fields _ store.variables (stmt_done setting (tree.Assign assigned operator value) store)
+      (assigned_holds setting (λ s. Same fields (λ name. stmt_writes name
+      (tree.Assign assigned operator value)) store.variables s.variables) (λ name. stmt_writes name
       (tree.Assign assigned operator value))
-      (same_holding _ store.variables) port assigned operator value store (λ name e. e)
-      (same_refl _ store.variables))
-  stmt_keeps port (tree.AssignElement array index operator value) names store closed =
-      plain _ store.variables (stmt_done port (tree.AssignElement array index operator value) store)
-      (element_assigned_holds (λ s. Same (λ name. stmt_writes name
+      (same_holding setting fields reach _ store.variables) assigned operator value store
+      (λ name e. e) (same_refl fields _ store.variables))
+  stmt_keeps setting fields reach (tree.AssignElement array index operator value) names store
+      closed =
+      plain fields _ store.variables (stmt_done setting
+      (tree.AssignElement array index operator value) store)
+      (element_assigned_holds setting (λ s. Same fields (λ name. stmt_writes name
       (tree.AssignElement array index operator value)) store.variables s.variables)
       (λ name. stmt_writes name (tree.AssignElement array index operator value))
-      (same_holding _ store.variables) port array index operator value store (λ name e. e)
-      (same_refl _ store.variables))
-  stmt_keeps port (tree.If condition chosen) names store closed =
+      (same_holding setting fields reach _ store.variables) array index operator value store
+      (λ name e. e) (same_refl fields _ store.variables))
+  stmt_keeps setting fields reach (tree.If condition chosen) names store closed =
       let writes : List ℕ → Bool = λ name. expr_writes name condition || stmt_writes name chosen in
-      plain writes store.variables (stmt_done port (tree.If condition chosen) store)
-      (then_ok (value_of port condition store) _
-      (λ test. Same writes store.variables test.1.variables)
-      (λ after. Same writes store.variables after.variables)
-      (value_holds (λ s. Same writes store.variables s.variables) writes
-      (same_holding writes store.variables) port condition store
-      (λ name e. or_first (expr_writes name condition) _ e) (same_refl writes store.variables))
-      (λ test h. branch_holds (λ after. Same writes store.variables after.variables)
-      (is_true test.0) (inside (stmt_done port chosen) test.1) (Ok test.1)
-      (inside_after writes (λ name. stmt_writes name chosen)
+      plain fields writes store.variables (stmt_done setting (tree.If condition chosen) store)
+      (then_ok (value_of setting condition store) _
+      (λ test. Same fields writes store.variables test.1.variables)
+      (λ after. Same fields writes store.variables after.variables)
+      (value_holds setting (λ s. Same fields writes store.variables s.variables) writes
+      (same_holding setting fields reach writes store.variables) condition store
+      (λ name e. or_first (expr_writes name condition) _ e)
+      (same_refl fields writes store.variables))
+      (λ test h. branch_holds (λ after. Same fields writes store.variables after.variables)
+      (is_true test.0) (inside (stmt_done setting chosen) test.1) (Ok test.1)
+      (inside_after fields writes (λ name. stmt_writes name chosen)
       (names_after (scope_of test.1.variables) chosen) store.variables
-      (stmt_done port chosen) test.1 (λ name e. or_second (expr_writes name condition) _ e)
-      (stmt_keeps port chosen names test.1 closed.1) h)
+      (stmt_done setting chosen) test.1 (λ name e. or_second (expr_writes name condition) _ e)
+      (stmt_keeps setting fields reach chosen names test.1 (closed.0.1, closed.1)) h)
       h))
-  stmt_keeps port (tree.IfElse condition chosen other) names store closed =
+  stmt_keeps setting fields reach (tree.IfElse condition chosen other) names store closed =
       let writes : List ℕ → Bool = λ name. expr_writes name condition
       || (stmt_writes name chosen || stmt_writes name other) in
-      plain writes store.variables (stmt_done port (tree.IfElse condition chosen other) store)
-      (then_ok (value_of port condition store) _
-      (λ test. Same writes store.variables test.1.variables)
-      (λ after. Same writes store.variables after.variables)
-      (value_holds (λ s. Same writes store.variables s.variables) writes
-      (same_holding writes store.variables) port condition store
-      (λ name e. or_first (expr_writes name condition) _ e) (same_refl writes store.variables))
-      (λ test h. branch_holds (λ after. Same writes store.variables after.variables)
-      (is_true test.0) (inside (stmt_done port chosen) test.1)
-      (inside (stmt_done port other) test.1)
-      (inside_after writes (λ name. stmt_writes name chosen)
+      let sides = plain_sides names condition chosen other closed in
+      plain fields writes store.variables (stmt_done setting
+      (tree.IfElse condition chosen other) store) (then_ok (value_of setting condition store) _
+      (λ test. Same fields writes store.variables test.1.variables)
+      (λ after. Same fields writes store.variables after.variables)
+      (value_holds setting (λ s. Same fields writes store.variables s.variables) writes
+      (same_holding setting fields reach writes store.variables) condition store
+      (λ name e. or_first (expr_writes name condition) _ e)
+      (same_refl fields writes store.variables))
+      (λ test h. branch_holds (λ after. Same fields writes store.variables after.variables)
+      (is_true test.0) (inside (stmt_done setting chosen) test.1)
+      (inside (stmt_done setting other) test.1)
+      (inside_after fields writes (λ name. stmt_writes name chosen)
       (names_after (scope_of test.1.variables) chosen) store.variables
-      (stmt_done port chosen) test.1 (λ name e. or_first (stmt_writes name chosen) _
+      (stmt_done setting chosen) test.1 (λ name e. or_first (stmt_writes name chosen) _
       (or_second (expr_writes name condition) _ e))
-      (stmt_keeps port chosen names test.1 closed.1) h)
-      (inside_after writes (λ name. stmt_writes name other)
+      (stmt_keeps setting fields reach chosen names test.1 sides.0) h)
+      (inside_after fields writes (λ name. stmt_writes name other)
       (names_after (scope_of test.1.variables) other) store.variables
-      (stmt_done port other) test.1 (λ name e. or_second (stmt_writes name chosen) _
+      (stmt_done setting other) test.1 (λ name e. or_second (stmt_writes name chosen) _
       (or_second (expr_writes name condition) _ e))
-      (stmt_keeps port other names test.1 closed.2) h)))
-  stmt_keeps port (tree.While condition body) names store closed =
+      (stmt_keeps setting fields reach other names test.1 sides.1) h)))
+  stmt_keeps setting fields reach (tree.While condition body) names store closed =
       let writes : List ℕ → Bool = λ name. expr_writes name condition || stmt_writes name body in
-      plain writes store.variables (stmt_done port (tree.While condition body) store)
-      (looped_holds (λ s. Same writes store.variables s.variables) (λ s n h. h) (suc turn_limit)
-      (value_of port condition) (inside (stmt_done port body))
-      (λ s h. value_holds (λ t. Same writes store.variables t.variables) writes
-      (same_holding writes store.variables) port condition s
+      plain fields writes store.variables (stmt_done setting (tree.While condition body) store)
+      (while_ok setting condition body store
+      (λ after. Same fields writes store.variables after.variables)
+      closed.1 (looped_holds
+      (λ s. Same fields writes store.variables s.variables) (λ s n h. h) (suc turn_limit)
+      (value_of setting condition) (inside (stmt_done setting body))
+      (λ s h. value_holds setting (λ t. Same fields writes store.variables t.variables) writes
+      (same_holding setting fields reach writes store.variables) condition s
       (λ name e. or_first (expr_writes name condition) _ e) h)
-      (λ s h. inside_after writes (λ name. stmt_writes name body)
-      (names_after (scope_of s.variables) body) store.variables (stmt_done port body) s
+      (λ s h. inside_after fields writes (λ name. stmt_writes name body)
+      (names_after (scope_of s.variables) body) store.variables (stmt_done setting body) s
       (λ name e. or_second (expr_writes name condition) _ e)
-      (stmt_keeps port body names s closed.1) h)
-      store (same_refl writes store.variables))
-  stmt_keeps port (tree.For first condition step body) names store closed =
+      (stmt_keeps setting fields reach body names s (closed.0.1, closed.1)) h)
+      store (same_refl fields writes store.variables)))
+  stmt_keeps setting fields reach (tree.For first condition step body) names store closed =
       let advance : List ℕ → Bool = λ name. option_writes name condition
       || (stmt_writes name step || stmt_writes name body) in
       let writes : List ℕ → Bool = λ name. stmt_writes name (tree.For first condition step body) in
       let loop : Store → Result Store Cause =
-      looped (suc turn_limit) (condition_value port condition)
-      (λ turn. result_and_then (inside (stmt_done port body) turn)
-      (inside (stmt_done port step))) in
-      plain writes store.variables (stmt_done port (tree.For first condition step body) store)
-      (inside_same writes writes (λ outer. result_and_then (stmt_done port first outer) loop) store
-      (λ name e. e)
-      (then_ok (stmt_done port first store) loop
-      (λ begun. Done (λ name. stmt_writes name first)
+      looped (suc turn_limit) (condition_value setting condition)
+      (λ turn. result_and_then (inside (stmt_done setting body) turn)
+      (inside (stmt_done setting step))) in
+      let parts = plain_parts names first condition step body closed in
+      plain fields writes store.variables (stmt_done setting
+      (tree.For first condition step body) store) (for_ok setting first condition step body store
+      (λ after. Same fields writes store.variables after.variables)
+      parts.2.1
+      (inside_same fields writes writes (λ outer. result_and_then
+      (stmt_done setting first outer) loop) store (λ name e. e)
+      (then_ok (stmt_done setting first store) loop
+      (λ begun. Done fields (λ name. stmt_writes name first)
       (names_after (scope_of store.variables) first) store.variables begun.variables)
-      (λ after. Grown writes store.variables after.variables)
-      (stmt_keeps port first names store closed.0)
+      (λ after. Grown fields writes store.variables after.variables)
+      (stmt_keeps setting fields reach first names store parts.0)
       (λ begun h.
-      IfOk-weaker (loop begun) (λ after. Same advance begun.variables after.variables) _
-      (λ after k. grown_then writes (λ name. stmt_writes name first) advance
+      IfOk-weaker (loop begun) (λ after. Same fields advance begun.variables after.variables) _
+      (λ after k. grown_then fields writes (λ name. stmt_writes name first) advance
       (λ name. shadows name first) store.variables begun.variables after.variables
       (λ name e. or_first (stmt_writes name first) _ e)
       (λ name e f. unless_shadowed (shadows name first) (advance name)
       (or_second (stmt_writes name first) _ e) f)
       (subst (Bares (λ name. shadows name first) (scope_of store.variables)) (sym h.exact)
       (stmt_bares first (scope_of store.variables))) h.grown
-      (grown_same advance begun.variables after.variables k))
-      (turns_same port condition advance (λ name. stmt_writes name step)
-      (λ name. stmt_writes name body) (stmt_done port step) (stmt_done port body)
+      (grown_same fields advance begun.variables after.variables k))
+      (turns_same setting fields reach condition advance (λ name. stmt_writes name step)
+      (λ name. stmt_writes name body) (stmt_done setting step) (stmt_done setting body)
       (λ s. names_after (scope_of s.variables) step)
       (λ s. names_after (scope_of s.variables) body)
       (λ name e. or_first (option_writes name condition) _ e)
@@ -486,41 +527,49 @@ mutual
       (or_second (option_writes name condition) _ e))
       (λ name e. or_second (stmt_writes name step) _
       (or_second (option_writes name condition) _ e))
-      (λ s. stmt_keeps port step (names_after names first) s closed.2)
-      (λ s. stmt_keeps port body (names_after names first) s closed.3) begun))))
-  stmt_keeps port (tree.Push value) names store closed =
-      plain (λ name. expr_writes name value) store.variables
-      (stmt_done port (tree.Push value) store)
-      (used_same port value store _ (λ given. then_ok (pushed_to port given.0 given.1.traffic) _
+      (λ s. stmt_keeps setting fields reach step (names_after names first) s parts.1)
+      (λ s. stmt_keeps setting fields reach body (names_after names first) s parts.2) begun)))))
+  stmt_keeps setting fields reach (tree.Push value) names store closed =
+      plain fields (λ name. expr_writes name value) store.variables
+      (stmt_done setting (tree.Push value) store)
+      (used_same setting fields reach value store _
+      (λ given. then_ok (pushed_to setting.port given.0 given.1.traffic) _
       (λ traffic. Unit {0}) (λ after. after.variables ≡ given.1.variables)
-      (any_ok (pushed_to port given.0 given.1.traffic)) (λ traffic _. refl)))
-  stmt_keeps port (tree.Print value) names store closed =
-      plain (λ name. expr_writes name value) store.variables
-      (stmt_done port (tree.Print value) store) (used_same port value store _ (λ given. refl))
-  stmt_keeps port (tree.Println value) names store closed =
-      plain (λ name. expr_writes name value) store.variables
-      (stmt_done port (tree.Println value) store) (used_same port value store _ (λ given. refl))
+      (any_ok (pushed_to setting.port given.0 given.1.traffic)) (λ traffic _. refl)))
+  stmt_keeps setting fields reach (tree.Print value) names store closed =
+      plain fields (λ name. expr_writes name value) store.variables
+      (stmt_done setting (tree.Print value) store) (used_same setting fields reach value store _
+      (λ given. refl))
+  stmt_keeps setting fields reach (tree.Println value) names store closed =
+      plain fields (λ name. expr_writes name value) store.variables
+      (stmt_done setting (tree.Println value) store) (used_same setting fields reach value store _
+      (λ given. refl))
 
-  pub stmts_keep : (port : Port) (s : tree.Stmts) (names : Scope) (store : Store)
-      → AreClosed names s → IfOk (stmts_done port s store)
-      (λ after. Grown (λ name. stmts_write name s) store.variables after.variables)
-  stmts_keep port tree.Done names store closed =
-      grown_same _ store.variables store.variables (same_refl _ store.variables)
-  stmts_keep port (tree.Then first rest) names store closed =
+  pub stmts_keep : (setting : Setting) (fields : ℕ) (reach : Reaches setting fields)
+      (s : tree.Stmts) (names : Scope) (store : Store)
+      → ArePlain names s → IfOk (stmts_done setting s store)
+      (λ after. Grown fields (λ name. stmts_write name s) store.variables after.variables)
+  stmts_keep setting fields reach tree.Done names store closed =
+      grown_same fields _ store.variables store.variables (same_refl fields _ store.variables)
+  stmts_keep setting fields reach (tree.Then first rest) names store closed =
       let writes : List ℕ → Bool = λ name. stmts_write name (tree.Then first rest) in
-      then_ok (stmt_done port first store) (stmts_done port rest)
-      (λ middle. Done (λ name. stmt_writes name first)
+      let parts = plain_then names first rest closed in
+      block_ok setting first rest store (λ after. Grown fields writes store.variables
+      after.variables) parts.0.1
+      (then_ok (stmt_done setting first store) (stmts_done setting rest)
+      (λ middle. Done fields (λ name. stmt_writes name first)
       (names_after (scope_of store.variables) first) store.variables middle.variables)
-      (λ after. Grown writes store.variables after.variables)
-      (stmt_keeps port first names store closed.0)
+      (λ after. Grown fields writes store.variables after.variables)
+      (stmt_keeps setting fields reach first names store parts.0)
       (λ middle h.
-      IfOk-weaker (stmts_done port rest middle)
-      (λ after. Grown (λ name. stmts_write name rest) middle.variables after.variables) _
-      (λ after k. grown_then writes (λ name. stmt_writes name first) (λ name. stmts_write name rest)
+      IfOk-weaker (stmts_done setting rest middle)
+      (λ after. Grown fields (λ name. stmts_write name rest) middle.variables after.variables) _
+      (λ after k. grown_then fields writes (λ name. stmt_writes name first)
+      (λ name. stmts_write name rest)
       (λ name. shadows name first) store.variables middle.variables after.variables
       (λ name e. or_first (stmt_writes name first) _ e)
       (λ name e f. unless_shadowed (shadows name first) (stmts_write name rest)
       (or_second (stmt_writes name first) _ e) f)
       (subst (Bares (λ name. shadows name first) (scope_of store.variables)) (sym h.exact)
       (stmt_bares first (scope_of store.variables))) h.grown k)
-      (stmts_keep port rest (names_after names first) middle closed.1))
+      (stmts_keep setting fields reach rest (names_after names first) middle parts.1)))

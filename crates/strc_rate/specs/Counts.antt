@@ -87,24 +87,31 @@ needed Always counts = counts
 needed Never counts = Some no_items
 needed Sometimes counts = require_zero counts
 
--- the counts of an expression
-abbrev pub expr_counts : tree.Expr → Option Counts
-expr_counts (tree.Number value) = Some no_items
-expr_counts (tree.Truth value) = Some no_items
-expr_counts (tree.Read name) = Some no_items
-expr_counts (tree.Element name index) = expr_counts index
-expr_counts tree.Pop = Some one_pop
-expr_counts (tree.Peek index) = expr_counts index
-expr_counts (tree.Call name arguments) = Some no_items
-expr_counts (tree.Group inner) = expr_counts inner
-expr_counts (tree.Unary operator operand) = expr_counts operand
-expr_counts (tree.Step operator name) = Some no_items
-expr_counts (tree.StepElement operator name index) = expr_counts index
-expr_counts (tree.Binary operator left right) =
-    sequence (expr_counts left) (needed (need_of operator left) (expr_counts right))
-expr_counts (tree.Conditional condition chosen other) =
-    sequence (expr_counts condition) (branch_counts (constant condition) (expr_counts chosen)
-    (expr_counts other))
+abbrev mutual
+  -- the counts of an expression
+  pub expr_counts : tree.Expr → Option Counts
+  expr_counts (tree.Number value) = Some no_items
+  expr_counts (tree.Truth value) = Some no_items
+  expr_counts (tree.Read name) = Some no_items
+  expr_counts (tree.Element name index) = expr_counts index
+  expr_counts tree.Pop = Some one_pop
+  expr_counts (tree.Peek index) = expr_counts index
+  expr_counts (tree.Call name arguments) = arguments_counts arguments
+  expr_counts (tree.Group inner) = expr_counts inner
+  expr_counts (tree.Unary operator operand) = expr_counts operand
+  expr_counts (tree.Step operator name) = Some no_items
+  expr_counts (tree.StepElement operator name index) = expr_counts index
+  expr_counts (tree.Binary operator left right) =
+      sequence (expr_counts left) (needed (need_of operator left) (expr_counts right))
+  expr_counts (tree.Conditional condition chosen other) =
+      sequence (expr_counts condition) (branch_counts (constant condition) (expr_counts chosen)
+      (expr_counts other))
+
+  -- the counts of arguments, one after the other
+  pub arguments_counts : tree.Arguments → Option Counts
+  arguments_counts tree.NoArgument = Some no_items
+  arguments_counts (tree.Argument first rest) =
+      sequence (expr_counts first) (arguments_counts rest)
 
 abbrev pub option_counts : Option tree.Expr → Option Counts
 option_counts None = Some no_items

@@ -2,22 +2,28 @@
 use Rattle.std.specs.Prelude.{List, [], ◌∷◌, ◌++◌, Option, Some, None}
 use Rattle.strc_syntax.specs.Tree as tree
 
--- the indices of the peeks of an expression; a peek comes after those in its index
-abbrev pub peeks_of_expr : tree.Expr → List tree.Expr
-peeks_of_expr (tree.Number value) = []
-peeks_of_expr (tree.Truth value) = []
-peeks_of_expr (tree.Read name) = []
-peeks_of_expr (tree.Element name index) = peeks_of_expr index
-peeks_of_expr tree.Pop = []
-peeks_of_expr (tree.Peek index) = peeks_of_expr index ++ index ∷ []
-peeks_of_expr (tree.Call name arguments) = []
-peeks_of_expr (tree.Group inner) = peeks_of_expr inner
-peeks_of_expr (tree.Unary operator operand) = peeks_of_expr operand
-peeks_of_expr (tree.Step operator name) = []
-peeks_of_expr (tree.StepElement operator name index) = peeks_of_expr index
-peeks_of_expr (tree.Binary operator left right) = peeks_of_expr left ++ peeks_of_expr right
-peeks_of_expr (tree.Conditional condition chosen other) =
-    peeks_of_expr condition ++ (peeks_of_expr chosen ++ peeks_of_expr other)
+abbrev mutual
+  -- the indices of the peeks of an expression; a peek comes after those in its index
+  pub peeks_of_expr : tree.Expr → List tree.Expr
+  peeks_of_expr (tree.Number value) = []
+  peeks_of_expr (tree.Truth value) = []
+  peeks_of_expr (tree.Read name) = []
+  peeks_of_expr (tree.Element name index) = peeks_of_expr index
+  peeks_of_expr tree.Pop = []
+  peeks_of_expr (tree.Peek index) = peeks_of_expr index ++ index ∷ []
+  peeks_of_expr (tree.Call name arguments) = peeks_of_arguments arguments
+  peeks_of_expr (tree.Group inner) = peeks_of_expr inner
+  peeks_of_expr (tree.Unary operator operand) = peeks_of_expr operand
+  peeks_of_expr (tree.Step operator name) = []
+  peeks_of_expr (tree.StepElement operator name index) = peeks_of_expr index
+  peeks_of_expr (tree.Binary operator left right) = peeks_of_expr left ++ peeks_of_expr right
+  peeks_of_expr (tree.Conditional condition chosen other) =
+      peeks_of_expr condition ++ (peeks_of_expr chosen ++ peeks_of_expr other)
+
+  -- the indices of the peeks of arguments
+  pub peeks_of_arguments : tree.Arguments → List tree.Expr
+  peeks_of_arguments tree.NoArgument = []
+  peeks_of_arguments (tree.Argument first rest) = peeks_of_expr first ++ peeks_of_arguments rest
 
 abbrev pub peeks_of_option : Option tree.Expr → List tree.Expr
 peeks_of_option None = []

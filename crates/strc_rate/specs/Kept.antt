@@ -5,13 +5,13 @@ use Rattle.strc_semantics.specs.declared.fault.Cause.{Cause}
 use Rattle.strc_semantics.specs.Filters.{Filter, body_block, body_rates, push_rate, pop_rate}
 use Rattle.strc_semantics.specs.Filters.{item_count}
 use Rattle.strc_semantics.specs.Closed.{IsClosedFilter}
-use Rattle.strc_semantics.specs.Firing.{Store, stmts_done, port_of, store_at}
+use Rattle.strc_semantics.specs.Firing.{Store, stmts_done, setting_of, store_at}
 use Rattle.strc_rate.specs.Rates.{checked}
 
 -- a body's text, run from these values of the fields before this window
 abbrev pub run_of : Filter → Body → (fields window : List ℤ) → Result Store Cause
 run_of filter body fields window =
-    stmts_done (port_of filter body window) (body_block body filter.members)
+    stmts_done (setting_of filter body window) (body_block body filter.members)
     (store_at filter fields)
 
 -- each firing without a fault pops and pushes exactly the declared rates

@@ -83,35 +83,44 @@ abbrev pub right_sites : Need → List PeekSite → (peeks : List tree.Expr) →
 right_sites Never right peeks = unreached peeks
 right_sites _ right peeks = right
 
--- the sites of the peeks of an expression, in order of the text
-abbrev pub expr_sites : Intervals → PopInterval → tree.Expr → List PeekSite
-expr_sites intervals popped (tree.Number value) = []
-expr_sites intervals popped (tree.Truth value) = []
-expr_sites intervals popped (tree.Read name) = []
-expr_sites intervals popped (tree.Element name index) =
-    expr_sites intervals popped index
-expr_sites intervals popped tree.Pop = []
-expr_sites intervals popped (tree.Peek index) =
-    expr_sites intervals popped index
-    ++ Reached (interval_of intervals index) (advance popped (expr_counts index)) ∷ []
-expr_sites intervals popped (tree.Call name arguments) = []
-expr_sites intervals popped (tree.Group inner) = expr_sites intervals popped inner
-expr_sites intervals popped (tree.Unary operator operand) =
-    expr_sites intervals popped operand
-expr_sites intervals popped (tree.Step operator name) = []
-expr_sites intervals popped (tree.StepElement operator name index) =
-    expr_sites intervals popped index
-expr_sites intervals popped (tree.Binary operator left right) =
-    expr_sites intervals popped left
-    ++ right_sites (need_of operator left)
-    (expr_sites intervals (advance popped (expr_counts left)) right)
-    (peeks_of_expr right)
-expr_sites intervals popped (tree.Conditional condition chosen other) =
-    expr_sites intervals popped condition
-    ++ sides_sites (constant condition) (expr_sites intervals
-    (advance popped (expr_counts condition)) chosen)
-    (expr_sites intervals (advance popped (expr_counts condition)) other)
-    (peeks_of_expr chosen) (peeks_of_expr other)
+abbrev mutual
+  -- the sites of the peeks of an expression, in order of the text
+  pub expr_sites : Intervals → PopInterval → tree.Expr → List PeekSite
+  expr_sites intervals popped (tree.Number value) = []
+  expr_sites intervals popped (tree.Truth value) = []
+  expr_sites intervals popped (tree.Read name) = []
+  expr_sites intervals popped (tree.Element name index) =
+      expr_sites intervals popped index
+  expr_sites intervals popped tree.Pop = []
+  expr_sites intervals popped (tree.Peek index) =
+      expr_sites intervals popped index
+      ++ Reached (interval_of intervals index) (advance popped (expr_counts index)) ∷ []
+  expr_sites intervals popped (tree.Call name arguments) =
+      arguments_sites intervals popped arguments
+  expr_sites intervals popped (tree.Group inner) = expr_sites intervals popped inner
+  expr_sites intervals popped (tree.Unary operator operand) =
+      expr_sites intervals popped operand
+  expr_sites intervals popped (tree.Step operator name) = []
+  expr_sites intervals popped (tree.StepElement operator name index) =
+      expr_sites intervals popped index
+  expr_sites intervals popped (tree.Binary operator left right) =
+      expr_sites intervals popped left
+      ++ right_sites (need_of operator left)
+      (expr_sites intervals (advance popped (expr_counts left)) right)
+      (peeks_of_expr right)
+  expr_sites intervals popped (tree.Conditional condition chosen other) =
+      expr_sites intervals popped condition
+      ++ sides_sites (constant condition) (expr_sites intervals
+      (advance popped (expr_counts condition)) chosen)
+      (expr_sites intervals (advance popped (expr_counts condition)) other)
+      (peeks_of_expr chosen) (peeks_of_expr other)
+
+  -- the sites of the peeks of arguments, each after the pops of those before
+  pub arguments_sites : Intervals → PopInterval → tree.Arguments → List PeekSite
+  arguments_sites intervals popped tree.NoArgument = []
+  arguments_sites intervals popped (tree.Argument first rest) =
+      expr_sites intervals popped first
+      ++ arguments_sites intervals (advance popped (expr_counts first)) rest
 
 abbrev pub option_sites : Intervals → PopInterval → Option tree.Expr
     → List PeekSite

@@ -10,60 +10,73 @@ use Rattle.strc_semantics.specs.declared.fault.Cause.{Cause}
 use Rattle.strc_semantics.specs.Arithmetic.{is_true}
 use Rattle.strc_semantics.specs.Constants.{decides}
 use Rattle.strc_semantics.specs.Scoping.{cells_of}
-use Rattle.strc_semantics.specs.Firing.{Port, Store, item_ahead, value_of, initial_cells}
+use Rattle.strc_semantics.specs.Returns.{stmt_returns}
+use Rattle.strc_semantics.specs.Firing.{Setting, Store, item_ahead, value_of, initial_cells}
 use Rattle.strc_semantics.specs.Firing.{declared_in, condition_value, turned, turn_limit, inside}
-use Rattle.strc_semantics.specs.Firing.{stmt_done}
+use Rattle.strc_semantics.specs.Firing.{stmt_done, unless_returned, test_unless_returned}
 use Rattle.strc_rate.specs.Entries.{peeks_of_expr, peeks_of_option, peeks_of_stmt}
 
 -- the item of a peek whose entry is closed is in the window, where the index has a value
-abbrev pub PeekIsSafe : Port → (closed : List Bool) → (place : ℕ) → (index : tree.Expr) → Store
+abbrev pub PeekIsSafe : Setting → (closed : List Bool) → (place : ℕ) → (index : tree.Expr) → Store
     → Type 0
-PeekIsSafe port closed place index store =
-    get_or closed place false ≡ true → IfOk (value_of port index store)
-    (λ given. IsSome (item_ahead port given.1.traffic.popped given.0))
+PeekIsSafe setting closed place index store =
+    get_or closed place false ≡ true → IfOk (value_of setting index store)
+    (λ given. IsSome (item_ahead setting.port given.1.traffic.popped given.0))
 
--- each closed peek of an expression that is run in this store; the first has this number
-abbrev pub ExprIsSafe : Port → (closed : List Bool) → (place : ℕ) → tree.Expr → Store → Type 0
-ExprIsSafe port closed place (tree.Number value) store = Unit {0}
-ExprIsSafe port closed place (tree.Truth value) store = Unit {0}
-ExprIsSafe port closed place (tree.Read name) store = Unit {0}
-ExprIsSafe port closed place (tree.Element name index) store =
-    ExprIsSafe port closed place index store
-ExprIsSafe port closed place tree.Pop store = Unit {0}
-ExprIsSafe port closed place (tree.Peek index) store =
-    ExprIsSafe port closed place index store
-    × PeekIsSafe port closed (place + length (peeks_of_expr index)) index store
-ExprIsSafe port closed place (tree.Call name arguments) store = Unit {0}
-ExprIsSafe port closed place (tree.Group inner) store = ExprIsSafe port closed place inner store
-ExprIsSafe port closed place (tree.Unary operator operand) store =
-    ExprIsSafe port closed place operand store
-ExprIsSafe port closed place (tree.Step operator name) store = Unit {0}
-ExprIsSafe port closed place (tree.StepElement operator name index) store =
-    ExprIsSafe port closed place index store
-ExprIsSafe port closed place (tree.Binary operator left right) store =
-    ExprIsSafe port closed place left store
-    × IfOk (value_of port left store) (λ first.
-    MatchBool (decides operator first.0) (Unit {0})
-    (ExprIsSafe port closed (place + length (peeks_of_expr left)) right first.1))
-ExprIsSafe port closed place (tree.Conditional condition chosen other) store =
-    let past = place + length (peeks_of_expr condition) in
-    ExprIsSafe port closed place condition store
-    × IfOk (value_of port condition store) (λ test.
-    MatchBool (is_true test.0) (ExprIsSafe port closed past chosen test.1)
-    (ExprIsSafe port closed (past + length (peeks_of_expr chosen)) other test.1))
+abbrev mutual
+  -- each closed peek of an expression that is run in this store; the first has this number
+  pub ExprIsSafe : Setting → (closed : List Bool) → (place : ℕ) → tree.Expr → Store → Type 0
+  ExprIsSafe setting closed place (tree.Number value) store = Unit {0}
+  ExprIsSafe setting closed place (tree.Truth value) store = Unit {0}
+  ExprIsSafe setting closed place (tree.Read name) store = Unit {0}
+  ExprIsSafe setting closed place (tree.Element name index) store =
+      ExprIsSafe setting closed place index store
+  ExprIsSafe setting closed place tree.Pop store = Unit {0}
+  ExprIsSafe setting closed place (tree.Peek index) store =
+      ExprIsSafe setting closed place index store
+      × PeekIsSafe setting closed (place + length (peeks_of_expr index)) index store
+  ExprIsSafe setting closed place (tree.Call name arguments) store =
+      ArgumentsAreSafe setting closed place arguments store
+  ExprIsSafe setting closed place (tree.Group inner) store =
+      ExprIsSafe setting closed place inner store
+  ExprIsSafe setting closed place (tree.Unary operator operand) store =
+      ExprIsSafe setting closed place operand store
+  ExprIsSafe setting closed place (tree.Step operator name) store = Unit {0}
+  ExprIsSafe setting closed place (tree.StepElement operator name index) store =
+      ExprIsSafe setting closed place index store
+  ExprIsSafe setting closed place (tree.Binary operator left right) store =
+      ExprIsSafe setting closed place left store
+      × IfOk (value_of setting left store) (λ first.
+      MatchBool (decides operator first.0) (Unit {0})
+      (ExprIsSafe setting closed (place + length (peeks_of_expr left)) right first.1))
+  ExprIsSafe setting closed place (tree.Conditional condition chosen other) store =
+      let past = place + length (peeks_of_expr condition) in
+      ExprIsSafe setting closed place condition store
+      × IfOk (value_of setting condition store) (λ test.
+      MatchBool (is_true test.0) (ExprIsSafe setting closed past chosen test.1)
+      (ExprIsSafe setting closed (past + length (peeks_of_expr chosen)) other test.1))
 
-abbrev pub OptionIsSafe : Port → (closed : List Bool) → (place : ℕ) → Option tree.Expr → Store
+  -- each closed peek of arguments, each of them in the store that those before leave
+  pub ArgumentsAreSafe : Setting → (closed : List Bool) → (place : ℕ) → tree.Arguments → Store
+      → Type 0
+  ArgumentsAreSafe setting closed place tree.NoArgument store = Unit {0}
+  ArgumentsAreSafe setting closed place (tree.Argument first rest) store =
+      ExprIsSafe setting closed place first store
+      × IfOk (value_of setting first store) (λ given.
+      ArgumentsAreSafe setting closed (place + length (peeks_of_expr first)) rest given.1)
+
+abbrev pub OptionIsSafe : Setting → (closed : List Bool) → (place : ℕ) → Option tree.Expr → Store
     → Type 0
-OptionIsSafe port closed place None store = Unit {0}
-OptionIsSafe port closed place (Some value) store = ExprIsSafe port closed place value store
+OptionIsSafe setting closed place None store = Unit {0}
+OptionIsSafe setting closed place (Some value) store = ExprIsSafe setting closed place value store
 
-abbrev pub VariablesAreSafe : Port → (closed : List Bool) → (place : ℕ) → (cells : ℕ)
+abbrev pub VariablesAreSafe : Setting → (closed : List Bool) → (place : ℕ) → (cells : ℕ)
     → List tree.Variable → Store → Type 0
-VariablesAreSafe port closed place cells [] store = Unit {0}
-VariablesAreSafe port closed place cells (first ∷ rest) store =
-    OptionIsSafe port closed place first.initial store
-    × IfOk (initial_cells port cells first.initial store) (λ given.
-    VariablesAreSafe port closed (place + length (peeks_of_option first.initial)) cells rest
+VariablesAreSafe setting closed place cells [] store = Unit {0}
+VariablesAreSafe setting closed place cells (first ∷ rest) store =
+    OptionIsSafe setting closed place first.initial store
+    × IfOk (initial_cells setting cells first.initial store) (λ given.
+    VariablesAreSafe setting closed (place + length (peeks_of_option first.initial)) cells rest
     (declared_in given.1 first.name given.0))
 
 -- each turn of a loop
@@ -81,56 +94,63 @@ LoopIsSafe (suc fuel) test_safe turn_safe test body store =
 
 abbrev mutual
   -- each closed peek of a statement that is run from this store
-  pub StmtIsSafe : Port → (closed : List Bool) → (place : ℕ) → tree.Stmt → Store → Type 0
-  StmtIsSafe port closed place tree.Empty store = Unit {0}
-  StmtIsSafe port closed place (tree.Compose statement) store = Unit {0}
-  StmtIsSafe port closed place (tree.Return value) store = Unit {0}
-  StmtIsSafe port closed place (tree.Block body) store = StmtsAreSafe port closed place body store
-  StmtIsSafe port closed place (tree.Declare kind variables) store =
-      VariablesAreSafe port closed place (cells_of kind) variables store
-  StmtIsSafe port closed place (tree.Evaluate value) store =
-      ExprIsSafe port closed place value store
-  StmtIsSafe port closed place (tree.Assign name operator value) store =
-      ExprIsSafe port closed place value store
-  StmtIsSafe port closed place (tree.AssignElement name index operator value) store =
-      ExprIsSafe port closed place index store
-      × IfOk (value_of port index store) (λ at.
-      ExprIsSafe port closed (place + length (peeks_of_expr index)) value at.1)
-  StmtIsSafe port closed place (tree.If condition chosen) store =
-      ExprIsSafe port closed place condition store
-      × IfOk (value_of port condition store) (λ test.
+  pub StmtIsSafe : Setting → (closed : List Bool) → (place : ℕ) → tree.Stmt → Store → Type 0
+  StmtIsSafe setting closed place tree.Empty store = Unit {0}
+  StmtIsSafe setting closed place (tree.Compose statement) store = Unit {0}
+  StmtIsSafe setting closed place (tree.Return value) store = Unit {0}
+  StmtIsSafe setting closed place (tree.Block body) store =
+      StmtsAreSafe setting closed place body store
+  StmtIsSafe setting closed place (tree.Declare kind variables) store =
+      VariablesAreSafe setting closed place (cells_of kind) variables store
+  StmtIsSafe setting closed place (tree.Evaluate value) store =
+      ExprIsSafe setting closed place value store
+  StmtIsSafe setting closed place (tree.Assign name operator value) store =
+      ExprIsSafe setting closed place value store
+  StmtIsSafe setting closed place (tree.AssignElement name index operator value) store =
+      ExprIsSafe setting closed place index store
+      × IfOk (value_of setting index store) (λ at.
+      ExprIsSafe setting closed (place + length (peeks_of_expr index)) value at.1)
+  StmtIsSafe setting closed place (tree.If condition chosen) store =
+      ExprIsSafe setting closed place condition store
+      × IfOk (value_of setting condition store) (λ test.
       MatchBool (is_true test.0)
-      (StmtIsSafe port closed (place + length (peeks_of_expr condition)) chosen test.1) (Unit {0}))
-  StmtIsSafe port closed place (tree.IfElse condition chosen other) store =
+      (StmtIsSafe setting closed (place + length (peeks_of_expr condition)) chosen test.1)
+      (Unit {0}))
+  StmtIsSafe setting closed place (tree.IfElse condition chosen other) store =
       let past = place + length (peeks_of_expr condition) in
-      ExprIsSafe port closed place condition store
-      × IfOk (value_of port condition store) (λ test.
-      MatchBool (is_true test.0) (StmtIsSafe port closed past chosen test.1)
-      (StmtIsSafe port closed (past + length (peeks_of_stmt chosen)) other test.1))
-  StmtIsSafe port closed place (tree.While condition body) store =
-      LoopIsSafe (suc turn_limit) (λ s. ExprIsSafe port closed place condition s)
-      (λ s. StmtIsSafe port closed (place + length (peeks_of_expr condition)) body s)
-      (value_of port condition) (inside (stmt_done port body)) store
-  StmtIsSafe port closed place (tree.For first condition step body) store =
+      ExprIsSafe setting closed place condition store
+      × IfOk (value_of setting condition store) (λ test.
+      MatchBool (is_true test.0) (StmtIsSafe setting closed past chosen test.1)
+      (StmtIsSafe setting closed (past + length (peeks_of_stmt chosen)) other test.1))
+  StmtIsSafe setting closed place (tree.While condition body) store =
+      LoopIsSafe (suc turn_limit) (λ s. ExprIsSafe setting closed place condition s)
+      (λ s. StmtIsSafe setting closed (place + length (peeks_of_expr condition)) body s)
+      (test_unless_returned (stmt_returns body) (value_of setting condition))
+      (inside (stmt_done setting body)) store
+  StmtIsSafe setting closed place (tree.For first condition step body) store =
       let test_place = place + length (peeks_of_stmt first) in
       let step_place = test_place + length (peeks_of_option condition) in
       let body_place = step_place + length (peeks_of_stmt step) in
-      StmtIsSafe port closed place first store
-      × IfOk (stmt_done port first store) (LoopIsSafe (suc turn_limit)
-      (λ s. OptionIsSafe port closed test_place condition s)
-      (λ s. StmtIsSafe port closed body_place body s
-      × IfOk (inside (stmt_done port body) s)
-      (λ after. StmtIsSafe port closed step_place step after))
-      (condition_value port condition) (λ turn. result_and_then (inside (stmt_done port body) turn)
-      (inside (stmt_done port step))))
-  StmtIsSafe port closed place (tree.Push value) store = ExprIsSafe port closed place value store
-  StmtIsSafe port closed place (tree.Print value) store = ExprIsSafe port closed place value store
-  StmtIsSafe port closed place (tree.Println value) store = ExprIsSafe port closed place value store
+      StmtIsSafe setting closed place first store
+      × IfOk (stmt_done setting first store) (LoopIsSafe (suc turn_limit)
+      (λ s. OptionIsSafe setting closed test_place condition s)
+      (λ s. StmtIsSafe setting closed body_place body s
+      × IfOk (inside (stmt_done setting body) s)
+      (λ after. StmtIsSafe setting closed step_place step after))
+      (test_unless_returned (stmt_returns body) (condition_value setting condition))
+      (λ turn. result_and_then (inside (stmt_done setting body) turn)
+      (unless_returned (stmt_returns body) (inside (stmt_done setting step)))))
+  StmtIsSafe setting closed place (tree.Push value) store =
+      ExprIsSafe setting closed place value store
+  StmtIsSafe setting closed place (tree.Print value) store =
+      ExprIsSafe setting closed place value store
+  StmtIsSafe setting closed place (tree.Println value) store =
+      ExprIsSafe setting closed place value store
 
   -- each closed peek of statements in a row that is run from this store
-  pub StmtsAreSafe : Port → (closed : List Bool) → (place : ℕ) → tree.Stmts → Store → Type 0
-  StmtsAreSafe port closed place tree.Done store = Unit {0}
-  StmtsAreSafe port closed place (tree.Then first rest) store =
-      StmtIsSafe port closed place first store
-      × IfOk (stmt_done port first store) (λ middle.
-      StmtsAreSafe port closed (place + length (peeks_of_stmt first)) rest middle)
+  pub StmtsAreSafe : Setting → (closed : List Bool) → (place : ℕ) → tree.Stmts → Store → Type 0
+  StmtsAreSafe setting closed place tree.Done store = Unit {0}
+  StmtsAreSafe setting closed place (tree.Then first rest) store =
+      StmtIsSafe setting closed place first store
+      × IfOk (stmt_done setting first store) (λ middle.
+      StmtsAreSafe setting closed (place + length (peeks_of_stmt first)) rest middle)

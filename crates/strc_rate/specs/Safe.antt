@@ -4,7 +4,7 @@ use Rattle.strc_semantics.specs.declared.body.Body.{Body}
 use Rattle.strc_semantics.specs.declared.body.Body.TheVariants as body
 use Rattle.strc_semantics.specs.Filters.{Filter, body_block, body_rates, window_size}
 use Rattle.strc_semantics.specs.Closed.{IsClosedFilter}
-use Rattle.strc_semantics.specs.Firing.{port_of, store_at}
+use Rattle.strc_semantics.specs.Firing.{setting_of, store_at}
 use Rattle.strc_rate.specs.Entries.{peeks_of}
 use Rattle.strc_rate.specs.PeeksSafe.{StmtsAreSafe}
 use Rattle.strc_rate.specs.Rates.{BodyRates, FilterRates, checked}
@@ -26,7 +26,7 @@ abbrev pub HasSafePeeks : Filter → FilterRates → Type 0
 HasSafePeeks filter rates =
     (body : Body) (fields window : List ℤ)
     → window_size (body_rates body filter.members) ≤ length window
-    → StmtsAreSafe (port_of filter body window) (rates_of rates body).closed 0
+    → StmtsAreSafe (setting_of filter body window) (rates_of rates body).closed 0
     (body_block body filter.members) (store_at filter fields)
 
 -- a peek that is reported as closed in a filter of known names doesn't fault

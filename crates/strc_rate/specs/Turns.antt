@@ -2,7 +2,7 @@
 use Rattle.std.specs.Prelude.{◌≡◌, ℕ, ◌<◌, true, false, Option, IfSome, Ok}
 use Rattle.strc_syntax.specs.Tree as tree
 use Rattle.strc_semantics.specs.Arithmetic.{truth}
-use Rattle.strc_semantics.specs.Firing.{Port, Store, value_in, condition_value}
+use Rattle.strc_semantics.specs.Firing.{Setting, Store, value_in, condition_value}
 use Rattle.strc_interval.specs.Loops.{Locals, value_after, counted_loop}
 
 -- in each turn of a counted loop, where its variable has moved so many times from its first value,
@@ -11,6 +11,7 @@ abbrev pub TurnsAreLeast : Type 0
 TurnsAreLeast =
     (locals : Locals) (first : tree.Stmt) (condition : Option tree.Expr) (step body : tree.Stmt)
     → IfSome (counted_loop locals first condition step body) (λ loop.
-    (port : Port) (store : Store) (turns : ℕ) → value_in store loop.name ≡ value_after loop turns
-    → (turns < loop.turns → condition_value port condition store ≡ Ok (truth true, store))
-    × (turns ≡ loop.turns → condition_value port condition store ≡ Ok (truth false, store)))
+    (setting : Setting) (store : Store) (turns : ℕ)
+    → value_in store loop.name ≡ value_after loop turns
+    → (turns < loop.turns → condition_value setting condition store ≡ Ok (truth true, store))
+    × (turns ≡ loop.turns → condition_value setting condition store ≡ Ok (truth false, store)))

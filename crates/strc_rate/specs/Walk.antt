@@ -5,10 +5,12 @@ use Rattle.strc_interval.specs.Loops.{Loop}
 use Rattle.strc_interval.specs.Intervals.{Intervals, intervals_after, with_unknown, names_of}
 use Rattle.strc_interval.specs.Intervals.{with_interval, turns_interval}
 use Rattle.strc_rate.specs.Counts.{Counts, Need, needed, sequence, expr_counts, option_counts}
-use Rattle.strc_rate.specs.Counts.{variables_counts, stmt_counts, stmts_counts, turns_counts}
+use Rattle.strc_rate.specs.Counts.{arguments_counts, variables_counts, stmt_counts, stmts_counts}
+use Rattle.strc_rate.specs.Counts.{turns_counts}
 use Rattle.strc_rate.specs.Entries.{peeks_of_expr, peeks_of_stmt}
 use Rattle.strc_rate.specs.Peeks.{PeekSite, PopInterval, advance, in_turns, right_sites}
-use Rattle.strc_rate.specs.Peeks.{expr_sites, option_sites, variables_sites, stmt_sites}
+use Rattle.strc_rate.specs.Peeks.{expr_sites, arguments_sites, option_sites, variables_sites}
+use Rattle.strc_rate.specs.Peeks.{stmt_sites}
 use Rattle.strc_rate.specs.Peeks.{stmts_sites, turns_sites}
 
 -- a part has these counts, adds these sites, and leaves these names: the walk reports its counts,
@@ -30,6 +32,12 @@ abbrev pub OptionIsPassed : Intervals → PopInterval → Option tree.Expr → O
 OptionIsPassed intervals popped value counts before after =
     IsPassed (option_counts value) (option_sites intervals popped value) intervals counts before
     after intervals
+
+abbrev pub ArgumentsArePassed : Intervals → PopInterval → tree.Arguments → Option Counts
+    → (before after : List PeekSite) → Type 0
+ArgumentsArePassed intervals popped arguments counts before after =
+    IsPassed (arguments_counts arguments) (arguments_sites intervals popped arguments) intervals
+    counts before after intervals
 
 -- two expressions in a row; whether the second one is evaluated is known or not
 abbrev pub OperandsArePassed : Intervals → PopInterval → Need → (left right : tree.Expr)

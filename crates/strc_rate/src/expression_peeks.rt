@@ -4,11 +4,12 @@
 ghost use Rattle.std.specs.Prelude.{IfOk};
 ghost use Rattle.std.specs.Option.{option_map};
 ghost use Rattle.strc_syntax.specs.Tree as tree;
-ghost use Rattle.strc_syntax.specs.View.{expr_view};
+ghost use Rattle.strc_syntax.specs.View.{expr_view, listed_view};
 ghost use Rattle.strc_rate.specs.Counts.{needed, branch_counts, expr_counts};
 ghost use Rattle.strc_rate.specs.Entries.{peeks_of_expr};
 ghost use Rattle.strc_rate.specs.Peeks.{expr_sites, right_sites, sides_sites};
 ghost use Rattle.strc_rate.specs.Walk.{IsPassed, ExprIsPassed, OptionIsPassed, OperandsArePassed};
+ghost use Rattle.strc_rate.specs.Walk.{ArgumentsArePassed};
 
 use crate::counts::{Counts, Need, if_equal, need_of, no_items, one_pop, require_zero, sequence};
 use crate::sight::{PeekSite, PopInterval, advance};
@@ -32,10 +33,11 @@ pub(crate) fn check_peeks_in_expression(
         sites.old.items sites.new.items) }
 {
     match value {
-        Expr::Number(_) | Expr::Truth(_) | Expr::Read(_) | Expr::Call(_, _) | Expr::Step(_, _) => {
+        Expr::Number(_) | Expr::Truth(_) | Expr::Read(_) | Expr::Step(_, _) => {
             Ok(Some(no_items()))
         }
         Expr::Pop => Ok(Some(one_pop())),
+        Expr::Call(_, arguments) => check_peeks_in_arguments(arguments, names, popped, sites),
         Expr::Peek(index) => check_peek(index, names, popped, sites),
         Expr::Element(_, inner)
         | Expr::Group(inner)
@@ -67,6 +69,27 @@ fn check_peek(
     let counts = check_peeks_in_expression(index, names, popped, sites)?;
     let here = advance(popped, counts);
     sites.push(PeekSite::Reached(interval_of(index, names), here))?;
+    Ok(counts)
+}
+
+/// The same of the arguments of a call, each after the pops of those before.
+#[cycle(expression)]
+fn check_peeks_in_arguments(
+    arguments: &[Expr],
+    names: &IntervalScope,
+    popped: PopInterval,
+    sites: &mut Vec<PeekSite>,
+) -> Result<Option<Counts>, NoMemory>
+    ensures { IfOk result (λ counts. ArgumentsArePassed names.now popped
+        (listed_view arguments.now) counts sites.old.items sites.new.items) }
+{
+    let mut counts = Some(no_items());
+    let mut here = popped;
+    for argument in arguments {
+        let passed = check_peeks_in_expression(argument, names, here, sites)?;
+        here = advance(here, passed);
+        counts = sequence(counts, passed);
+    }
     Ok(counts)
 }
 

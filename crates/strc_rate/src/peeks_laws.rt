@@ -10,7 +10,8 @@ pub fn turns_are_least()
     ensures { TurnsAreLeast }
 {}
 
-/// A run of statements of known names without a fault pops and pushes the counted items.
+/// A run of statements of known names, none of them a `return`, without a fault, in a store that
+/// has the fields, pops and pushes the counted items.
 pub fn counted_items_are_moved()
     ensures { CountedItemsAreMoved }
 {}
@@ -20,7 +21,8 @@ pub fn each_peek_has_an_entry()
     ensures { EachPeekHasAnEntry }
 {}
 
-/// In each run before a whole window a peek whose entry is closed finds its item.
+/// In each run before a whole window of statements that don't return, in a store that has the
+/// fields, a peek whose entry is closed finds its item.
 pub fn closed_peeks_find_items()
     ensures { ClosedPeeksFindItems }
 {}

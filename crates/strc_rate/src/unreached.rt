@@ -4,7 +4,8 @@
 ghost use Rattle.std.specs.Prelude.{◌≡◌, ◌++◌, OnOk, map};
 ghost use Rattle.std.specs.Option.{option_map};
 ghost use Rattle.strc_syntax.specs.Tree as tree;
-ghost use Rattle.strc_syntax.specs.View.{expr_view, variable_view, stmt_view, block_view};
+ghost use Rattle.strc_syntax.specs.View.{expr_view, listed_view, variable_view, stmt_view};
+ghost use Rattle.strc_syntax.specs.View.{block_view};
 ghost use Rattle.strc_rate.specs.Entries as text;
 ghost use Rattle.strc_rate.specs.Peeks as spec;
 
@@ -128,12 +129,8 @@ pub(crate) fn skip_expression(value: &Expr, sites: &mut Vec<PeekSite>) -> Result
         ≡ sites.old.items ++ spec.unreached (text.peeks_of_expr (expr_view value.now))) }
 {
     match value {
-        Expr::Number(_)
-        | Expr::Truth(_)
-        | Expr::Read(_)
-        | Expr::Pop
-        | Expr::Call(_, _)
-        | Expr::Step(_, _) => Ok(()),
+        Expr::Number(_) | Expr::Truth(_) | Expr::Read(_) | Expr::Pop | Expr::Step(_, _) => Ok(()),
+        Expr::Call(_, arguments) => skip_arguments(arguments, sites),
         Expr::Peek(index) => skip_peek(index, sites),
         Expr::Element(_, inner)
         | Expr::Group(inner)
@@ -184,4 +181,16 @@ fn skip_conditional(
 {
     skip_expression(condition, sites)?;
     skip_operands(chosen, other, sites)
+}
+
+/// The same of the arguments of a call.
+#[cycle(expression)]
+fn skip_arguments(arguments: &[Expr], sites: &mut Vec<PeekSite>) -> Result<(), NoMemory>
+    ensures { OnOk result (sites.new.items ≡ sites.old.items
+        ++ spec.unreached (text.peeks_of_arguments (listed_view arguments.now))) }
+{
+    for argument in arguments {
+        skip_expression(argument, sites)?;
+    }
+    Ok(())
 }

@@ -7,7 +7,7 @@ use Rattle.strc_syntax.specs.declared.tree.BinaryOperator.{BinaryOperator}
 use Rattle.strc_syntax.specs.declared.tree.BinaryOperator.TheVariants as binary
 use Rattle.strc_semantics.specs.declared.fault.Cause.{Cause}
 use Rattle.strc_semantics.specs.Arithmetic.{unary_value, binary_value, is_true}
-use Rattle.strc_semantics.specs.Firing.{Port, Store, joined, value_of}
+use Rattle.strc_semantics.specs.Firing.{Setting, Store, joined, value_of}
 use Rattle.strc_semantics.specs.Constants.{IsConstant, sides_value, constant_value}
 
 -- a value before a store that stays as it was, or a fault
@@ -135,49 +135,49 @@ beside-if store true chosen other does does' e e' = e
 beside-if store false chosen other does does' e e' = e'
 
 -- a constant expression's value is that of the expression wherever it is, and nothing changes
-pub constant_is_value : (port : Port) (value : tree.Expr) (store : Store) → IsConstant value
-    → beside store (constant_value value) ≡ value_of port value store
-constant_is_value port (tree.Number value) store h = refl
-constant_is_value port (tree.Truth value) store h = refl
-constant_is_value port (tree.Read name) store h = absurd h
-constant_is_value port (tree.Element name index) store h = absurd h
-constant_is_value port tree.Pop store h = absurd h
-constant_is_value port (tree.Peek index) store h = absurd h
-constant_is_value port (tree.Call name arguments) store h = absurd h
-constant_is_value port (tree.Group inner) store h = constant_is_value port inner store h
-constant_is_value port (tree.Unary operator operand) store h =
+pub constant_is_value : (setting : Setting) (value : tree.Expr) (store : Store) → IsConstant value
+    → beside store (constant_value value) ≡ value_of setting value store
+constant_is_value setting (tree.Number value) store h = refl
+constant_is_value setting (tree.Truth value) store h = refl
+constant_is_value setting (tree.Read name) store h = absurd h
+constant_is_value setting (tree.Element name index) store h = absurd h
+constant_is_value setting tree.Pop store h = absurd h
+constant_is_value setting (tree.Peek index) store h = absurd h
+constant_is_value setting (tree.Call name arguments) store h = absurd h
+constant_is_value setting (tree.Group inner) store h = constant_is_value setting inner store h
+constant_is_value setting (tree.Unary operator operand) store h =
     beside-then store (constant_value operand) (λ value. Ok (unary_value operator value))
     (λ right. Ok (unary_value operator right.0, right.1)) (λ value. refl)
     ∙ ap (λ r. result_and_then r (λ right. Ok (unary_value operator right.0, right.1)))
-    (constant_is_value port operand store h)
-constant_is_value port (tree.Step operator name) store h = absurd h
-constant_is_value port (tree.StepElement operator name index) store h = absurd h
-constant_is_value port (tree.Binary operator left right) store h =
+    (constant_is_value setting operand store h)
+constant_is_value setting (tree.Step operator name) store h = absurd h
+constant_is_value setting (tree.StepElement operator name index) store h = absurd h
+constant_is_value setting (tree.Binary operator left right) store h =
     let does : ℤ × Store → Result (ℤ × Store) Cause =
-    λ first. joined operator first (value_of port right) in
+    λ first. joined operator first (value_of setting right) in
     beside-then store (constant_value left)
     (λ value. sides_value operator value (constant_value right)) does
-    (λ value. beside-sides store operator value (constant_value right) (value_of port right)
-    (constant_is_value port right store h.1))
-    ∙ ap (λ r. result_and_then r does) (constant_is_value port left store h.0)
-constant_is_value port (tree.Conditional condition chosen other) store h =
+    (λ value. beside-sides store operator value (constant_value right) (value_of setting right)
+    (constant_is_value setting right store h.1))
+    ∙ ap (λ r. result_and_then r does) (constant_is_value setting left store h.0)
+constant_is_value setting (tree.Conditional condition chosen other) store h =
     let does : ℤ × Store → Result (ℤ × Store) Cause =
-    λ test. cond (is_true test.0) (value_of port chosen test.1)
-    (value_of port other test.1) in
+    λ test. cond (is_true test.0) (value_of setting chosen test.1)
+    (value_of setting other test.1) in
     beside-then store (constant_value condition)
     (λ test. cond (is_true test) (constant_value chosen) (constant_value other)) does
     (λ test. beside-if store (is_true test) (constant_value chosen) (constant_value other)
-    (value_of port chosen store) (value_of port other store)
-    (constant_is_value port chosen store h.1) (constant_is_value port other store h.2))
-    ∙ ap (λ r. result_and_then r does) (constant_is_value port condition store h.0)
+    (value_of setting chosen store) (value_of setting other store)
+    (constant_is_value setting chosen store h.1) (constant_is_value setting other store h.2))
+    ∙ ap (λ r. result_and_then r does) (constant_is_value setting condition store h.0)
 
 -- the same, for a value and for a fault
-pub constant_value_Ok : (port : Port) (e : tree.Expr) (store : Store) (value : ℤ) → IsConstant e
-    → constant_value e ≡ Ok value → value_of port e store ≡ Ok (value, store)
-constant_value_Ok port e store value h is =
-    sym (constant_is_value port e store h) ∙ ap (beside store) is
+pub constant_value_Ok : (setting : Setting) (e : tree.Expr) (store : Store) (value : ℤ)
+    → IsConstant e → constant_value e ≡ Ok value → value_of setting e store ≡ Ok (value, store)
+constant_value_Ok setting e store value h is =
+    sym (constant_is_value setting e store h) ∙ ap (beside store) is
 
-pub constant_value_Err : (port : Port) (e : tree.Expr) (store : Store) (cause : Cause)
-    → IsConstant e → constant_value e ≡ Err cause → value_of port e store ≡ Err cause
-constant_value_Err port e store cause h is =
-    sym (constant_is_value port e store h) ∙ ap (beside store) is
+pub constant_value_Err : (setting : Setting) (e : tree.Expr) (store : Store) (cause : Cause)
+    → IsConstant e → constant_value e ≡ Err cause → value_of setting e store ≡ Err cause
+constant_value_Err setting e store cause h is =
+    sym (constant_is_value setting e store h) ∙ ap (beside store) is

@@ -2,3 +2,5 @@ pub mod Wrapping
 pub mod Growth
 pub mod Turns
 pub mod ConstantValues
+pub mod Calls
+pub mod Examples

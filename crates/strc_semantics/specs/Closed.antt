@@ -1,28 +1,36 @@
 -- Texts in which each name of a variable is declared, and each variable has its cells.
-use Rattle.std.specs.Prelude.{ℕ, ◌≡◌, ◌≤◌, true, List, [], ◌∷◌, reverse, Option, Some, None}
+use Rattle.std.specs.Prelude.{ℕ, ◌≡◌, ◌≤◌, true, false, List, [], ◌∷◌, reverse, Option, Some, None}
 use Rattle.strc_syntax.specs.Tree as tree
-use Rattle.strc_semantics.specs.Filters.{Filter, sized_fields}
-use Rattle.strc_semantics.specs.Scoping.{Scope, cells_of, names_after, is_declared}
+use Rattle.strc_semantics.specs.Filters.{Filter, sized_fields, stmts_print}
+use Rattle.strc_semantics.specs.Returns.{stmts_return, names_hide, stmts_hide}
+use Rattle.strc_semantics.specs.Scoping.{Scope, cells_of, names_after, is_declared, answer_name}
+use Rattle.strc_semantics.specs.Scoping.{helper_scope}
 
 -- a name is one of these
 abbrev pub IsNamed : Scope → List ℕ → Type 0
 IsNamed names name = is_declared names name ≡ true
 
-abbrev pub IsClosed : Scope → tree.Expr → Type 0
-IsClosed names (tree.Number value) = Unit {0}
-IsClosed names (tree.Truth value) = Unit {0}
-IsClosed names (tree.Read name) = IsNamed names name
-IsClosed names (tree.Element name index) = IsNamed names name × IsClosed names index
-IsClosed names tree.Pop = Unit {0}
-IsClosed names (tree.Peek index) = IsClosed names index
-IsClosed names (tree.Call name arguments) = ⊥
-IsClosed names (tree.Group inner) = IsClosed names inner
-IsClosed names (tree.Unary operator operand) = IsClosed names operand
-IsClosed names (tree.Step operator name) = IsNamed names name
-IsClosed names (tree.StepElement operator name index) = IsNamed names name × IsClosed names index
-IsClosed names (tree.Binary operator left right) = IsClosed names left × IsClosed names right
-IsClosed names (tree.Conditional condition chosen other) =
-    IsClosed names condition × IsClosed names chosen × IsClosed names other
+abbrev mutual
+  pub IsClosed : Scope → tree.Expr → Type 0
+  IsClosed names (tree.Number value) = Unit {0}
+  IsClosed names (tree.Truth value) = Unit {0}
+  IsClosed names (tree.Read name) = IsNamed names name
+  IsClosed names (tree.Element name index) = IsNamed names name × IsClosed names index
+  IsClosed names tree.Pop = Unit {0}
+  IsClosed names (tree.Peek index) = IsClosed names index
+  IsClosed names (tree.Call name arguments) = AreClosedArguments names arguments
+  IsClosed names (tree.Group inner) = IsClosed names inner
+  IsClosed names (tree.Unary operator operand) = IsClosed names operand
+  IsClosed names (tree.Step operator name) = IsNamed names name
+  IsClosed names (tree.StepElement operator name index) = IsNamed names name × IsClosed names index
+  IsClosed names (tree.Binary operator left right) = IsClosed names left × IsClosed names right
+  IsClosed names (tree.Conditional condition chosen other) =
+      IsClosed names condition × IsClosed names chosen × IsClosed names other
+
+  pub AreClosedArguments : Scope → tree.Arguments → Type 0
+  AreClosedArguments names tree.NoArgument = Unit {0}
+  AreClosedArguments names (tree.Argument first rest) =
+      IsClosed names first × AreClosedArguments names rest
 
 -- an initialiser or a condition, where there is one
 abbrev pub IsClosedInitial : Scope → Option tree.Expr → Type 0
@@ -65,7 +73,8 @@ abbrev mutual
   IsClosedStmt names (tree.Push value) = IsClosed names value
   IsClosedStmt names (tree.Print value) = IsClosed names value
   IsClosedStmt names (tree.Println value) = IsClosed names value
-  IsClosedStmt names (tree.Return value) = ⊥
+  IsClosedStmt names (tree.Return value) =
+      IsNamed names answer_name × IsClosedInitial names value
 
   pub AreClosed : Scope → tree.Stmts → Type 0
   AreClosed names tree.Done = Unit {0}
@@ -79,13 +88,25 @@ AreClosedFields names cells (first ∷ rest) =
     (IsNamed names first.name × IsClosedInitial names first.initial
     × FitsInitial cells first.initial) × AreClosedFields names cells rest
 
+-- a block that isn't a helper function's: it doesn't return
+abbrev pub IsClosedBody : Scope → tree.Stmts → Type 0
+IsClosedBody names block =
+    AreClosed names block × (stmts_return block ≡ false) × (stmts_hide block ≡ false)
+
+-- a helper function's block, inside its parameters: it doesn't print, and nothing hides its answer
+abbrev pub IsClosedHelper : Scope → (parameters : List (List ℕ)) → tree.Stmts → Type 0
+IsClosedHelper names parameters block =
+    AreClosed (helper_scope names parameters) block × (stmts_print block ≡ false)
+    × (names_hide parameters ≡ false) × (stmts_hide block ≡ false)
+
 -- a member, among the fields
 abbrev pub IsClosedMember : Scope → tree.Member → Type 0
 IsClosedMember names (tree.Fields kind variables) = AreClosedFields names (cells_of kind) variables
-IsClosedMember names (tree.Init block) = AreClosed names block
-IsClosedMember names (tree.Prework rates block) = AreClosed names block
-IsClosedMember names (tree.Work rates block) = AreClosed names block
-IsClosedMember names (tree.Helper kind name parameters block) = ⊥
+IsClosedMember names (tree.Init block) = IsClosedBody names block
+IsClosedMember names (tree.Prework rates block) = IsClosedBody names block
+IsClosedMember names (tree.Work rates block) = IsClosedBody names block
+IsClosedMember names (tree.Helper kind name parameters block) =
+    IsClosedHelper names parameters block
 
 abbrev pub AreClosedMembers : Scope → List tree.Member → Type 0
 AreClosedMembers names [] = Unit {0}

@@ -41,7 +41,7 @@ constant_value (tree.Conditional condition chosen other) =
     result_and_then (constant_value condition)
     (λ test. if is_true test then constant_value chosen else constant_value other)
 
--- whether an expression names no variable, and takes no item
+-- whether an expression names no variable, takes no item and calls no helper
 abbrev pub IsConstant : tree.Expr → Type 0
 IsConstant (tree.Number value) = Unit {0}
 IsConstant (tree.Truth value) = Unit {0}

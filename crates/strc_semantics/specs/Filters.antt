@@ -1,11 +1,12 @@
 -- A filter's text, without where it lies in memory.
 use Rattle.std.specs.Prelude.{ℕ, ◌+◌, max, ℤ, pos, negsuc, Bool, true, false, ◌||◌, List, [], ◌∷◌}
-use Rattle.std.specs.Prelude.{◌++◌, map, Option, Some, None, unwrap_or, if◌then◌else◌}
+use Rattle.std.specs.Prelude.{◌++◌, map, Option, Some, None, unwrap_or, if◌then◌else◌, bytes_eq}
 use Rattle.strc_syntax.specs.Tree as tree
 use Rattle.strc_syntax.specs.View.{member_view}
 use Rattle.strc_syntax.specs.declared.tree.FilterTree.{FilterTree}
 use Rattle.strc_syntax.specs.declared.tree.Member.{Member}
 use Rattle.strc_syntax.specs.declared.tree.ItemType.{ItemType}
+use Rattle.strc_syntax.specs.declared.tree.HelperType.{HelperType}
 use Rattle.strc_syntax.specs.declared.tree.RateKind.{RateKind}
 use Rattle.strc_syntax.specs.declared.tree.RateKind.TheVariants as kind
 use Rattle.strc_semantics.specs.declared.body.Body.{Body}
@@ -101,6 +102,23 @@ prework_rates (tree.Init block ∷ rest) = prework_rates rest
 prework_rates (tree.Prework rates block ∷ rest) = Some rates
 prework_rates (tree.Work rates block ∷ rest) = prework_rates rest
 prework_rates (tree.Helper kind name parameters block ∷ rest) = prework_rates rest
+
+-- a helper function: what it gives, the names of its parameters, and its block
+pub record Helper : Type 0 where
+  pub kind : HelperType
+  pub parameters : List (List ℕ)
+  pub block : tree.Stmts
+
+-- the first helper function of a name, where there is one
+abbrev pub helper_named : List tree.Member → List ℕ → Option Helper
+helper_named [] name = None
+helper_named (tree.Fields kind variables ∷ rest) name = helper_named rest name
+helper_named (tree.Init block ∷ rest) name = helper_named rest name
+helper_named (tree.Prework rates block ∷ rest) name = helper_named rest name
+helper_named (tree.Work rates block ∷ rest) name = helper_named rest name
+helper_named (tree.Helper kind own parameters block ∷ rest) name =
+    if bytes_eq own name then Some
+    (record { kind = kind; parameters = parameters; block = block }) else helper_named rest name
 
 -- the block of a body, and its rates: without a prework each body is the work
 abbrev pub body_block : Body → List tree.Member → tree.Stmts

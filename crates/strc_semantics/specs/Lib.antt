@@ -1,6 +1,8 @@
 pub mod Arithmetic
 pub mod Filters
 pub mod Scoping
+pub mod Typing
+pub mod Returns
 pub mod Firing
 pub mod Constants
 pub mod Closed

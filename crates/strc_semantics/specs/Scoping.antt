@@ -1,7 +1,7 @@
 -- Which variables can be seen after a statement, with how many cells each has: one for a number or
 -- a truth value, and one for each element of an array.
 use Rattle.std.specs.Prelude.{ℕ, ◌+◌, pos, List, [], ◌∷◌, Bool, false, ◌||◌, Option, Some, None}
-use Rattle.std.specs.Prelude.{unwrap_or, if◌then◌else◌, bytes_eq}
+use Rattle.std.specs.Prelude.{map, unwrap_or, if◌then◌else◌, bytes_eq}
 use Rattle.strc_syntax.specs.Tree as tree
 
 -- names of variables with their cells, the innermost first
@@ -30,6 +30,26 @@ with_declared scope cells (first ∷ rest) =
 abbrev pub names_after : Scope → tree.Stmt → Scope
 names_after scope (tree.Declare kind variables) = with_declared scope (cells_of kind) variables
 names_after scope _ = scope
+
+-- the variable in which a helper's call keeps whether it has returned, and its value: no NAME is
+-- empty, so that no other variable has its name
+abbrev pub answer_name : List ℕ
+answer_name = []
+
+-- parameters with their cells, in order
+abbrev pub sized_parameters : List (List ℕ) → Scope
+sized_parameters parameters = map (λ name. record { 0 = name; 1 = 1 }) parameters
+
+-- the variables that can be seen after parameters, the last one innermost
+abbrev pub with_parameters : Scope → List (List ℕ) → Scope
+with_parameters scope [] = scope
+with_parameters scope (first ∷ rest) =
+    with_parameters (record { 0 = first; 1 = 1 } ∷ scope) rest
+
+-- the variables of a helper's block, among the fields
+abbrev pub helper_scope : Scope → List (List ℕ) → Scope
+helper_scope fields parameters =
+    with_parameters (record { 0 = answer_name; 1 = 2 } ∷ fields) parameters
 
 -- how many cells variables have together
 abbrev pub total : Scope → ℕ

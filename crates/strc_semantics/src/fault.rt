@@ -3,9 +3,12 @@
 use std::{error, fmt};
 use thiserror::Error;
 
-/// How many turns the loops of one firing, of one start or of one elaboration may make: one more is
-/// the fault `Turns`.
+/// How many turns the loops of one firing, of one start or of one elaboration may make, where a
+/// call counts as one: one more is the fault `Turns`.
 pub const TURN_LIMIT: u32 = 1_000_000;
+
+/// How many calls of a firing or of a start may be running at once: one more is the fault `Calls`.
+pub const CALL_LIMIT: u32 = 64;
 
 /// Why a firing faults.
 #[derive(Clone, Copy, Debug, PartialEq, Eq)]
@@ -18,7 +21,7 @@ pub enum Cause {
     PeekRange,
     /// The loops of one firing turn too often.
     Turns,
-    /// Too many calls of helper functions are running at once.
+    /// Too many calls are running at once.
     Calls,
 }
 

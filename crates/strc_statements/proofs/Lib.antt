@@ -5,3 +5,4 @@ pub mod Dealing
 pub mod Refusals
 pub mod TypeRows
 pub mod WeightsMeet
+pub mod Arguments

@@ -6,7 +6,7 @@ use Rattle.std.specs.Prelude.{bytes_eq}
 use Rattle.std.specs.declared.alloc.Global.{Global}
 use Rattle.strc_semantics.specs.Firing.{Variables, cells_named, with_cell}
 use Rattle.strc_base.specs.Names.{number_named, plain_names}
-use Rattle.strc_check.specs.Typing.{TypedNames}
+use Rattle.strc_semantics.specs.Typing.{TypedNames}
 use Rattle.strc_statements.specs.Bindings.{Bindings, row_at, with_cells}
 
 pub length_plain : (names : TypedNames) → length (plain_names names) ≡ length names

@@ -10,8 +10,8 @@ use Rattle.std.proofs.lemmas.Bool.Decides.{eqb_tells}
 use Rattle.std.proofs.lemmas.Slice.Eq.{bytes_eq-Decides}
 use Rattle.strc_semantics.specs.Firing.{Variables}
 use Rattle.strc_base.specs.Names.{has_name, plain_names}
-use Rattle.strc_check.specs.Typing.{TypedNames}
-use Rattle.strc_check.specs.declared.types.ValueType.{ValueType}
+use Rattle.strc_semantics.specs.Typing.{TypedNames}
+use Rattle.strc_semantics.specs.declared.types.ValueType.{ValueType}
 use Rattle.strc_statements.specs.Bindings.{row_at, with_cells, cells_of}
 use Rattle.strc_statements.specs.Texts.{Constants, unshadowed, as_constant, captures_after}
 use Rattle.strc_statements.specs.Captures.{captured_one, captured, unshadowed_one}

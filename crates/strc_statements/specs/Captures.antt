@@ -4,8 +4,8 @@ use Rattle.std.specs.Prelude.{◌∷◌}
 use Rattle.std.specs.Prelude.{if◌then◌else◌}
 use Rattle.strc_semantics.specs.Firing.{Variables}
 use Rattle.strc_base.specs.Names.{has_name, plain_names}
-use Rattle.strc_check.specs.Typing.{TypedNames}
-use Rattle.strc_check.specs.declared.types.ValueType.{ValueType}
+use Rattle.strc_semantics.specs.Typing.{TypedNames}
+use Rattle.strc_semantics.specs.declared.types.ValueType.{ValueType}
 use Rattle.strc_statements.specs.Bindings.{cells_of}
 use Rattle.strc_statements.specs.Texts.{Constants, as_constant}
 

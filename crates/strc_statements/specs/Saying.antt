@@ -1,7 +1,9 @@
 -- How code that evaluates and runs answers.
 use Rattle.std.specs.Prelude.{◌≡◌, ℤ, Result, Ok, Err}
 use Rattle.strc_semantics.specs.Firing as firing
-use Rattle.strc_semantics.specs.Firing.{no_traffic}
+use Rattle.strc_base.specs.Results.{result_and_then}
+use Rattle.strc_syntax.specs.Tree as tree
+use Rattle.strc_semantics.specs.Firing.{no_traffic, alone, arguments_given}
 use Rattle.strc_semantics.specs.declared.fault.Cause.{Cause}
 use Rattle.strc_statements.specs.declared.store.Store.{Store}
 
@@ -22,3 +24,8 @@ Evaluates outcome (Err cause) after = outcome ≡ Err cause
 abbrev pub Does : Result firing.Store Cause → Result (Unit {0}) Cause → firing.Store → Type 0
 Does outcome (Ok done) after = outcome ≡ Ok after
 Does outcome (Err cause) after = outcome ≡ Err cause
+
+-- the store after the arguments of a call
+abbrev pub arguments_done : tree.Arguments → firing.Store → Result firing.Store Cause
+arguments_done arguments store =
+    result_and_then (arguments_given alone arguments store) (λ given. Ok given.1)

@@ -6,16 +6,16 @@ use Rattle.std.specs.Int.RustNames.{int_lt}
 use Rattle.strc_base.specs.Results.{result_and_then}
 use Rattle.strc_syntax.specs.Tree as tree
 use Rattle.strc_semantics.specs.Firing.{Store, value_of, stmt_done, initial_cells, declared_in}
-use Rattle.strc_semantics.specs.Firing.{no_io}
+use Rattle.strc_semantics.specs.Firing.{alone}
 use Rattle.strc_check.specs.Resolution.{expr_as, variable_resolved, stmt_resolved, init_context}
-use Rattle.strc_check.specs.Typing.{TypedNames, type_of}
+use Rattle.strc_semantics.specs.Typing.{TypedNames, type_of}
 use Rattle.strc_semantics.specs.declared.fault.Cause.{Cause}
 use Rattle.strc_semantics.specs.declared.fault.Cause.TheVariants as causes
 use Rattle.strc_check.specs.declared.type_rules.TheConstants.{LENGTH_LIMIT}
 use Rattle.strc_check.specs.declared.error.LowerError.{LowerError}
 use Rattle.strc_check.specs.declared.error.LowerErrorKind.TheVariants as lowering
-use Rattle.strc_check.specs.declared.types.ValueType.{ValueType}
-use Rattle.strc_check.specs.declared.types.ValueType.TheVariants as kind
+use Rattle.strc_semantics.specs.declared.types.ValueType.{ValueType}
+use Rattle.strc_semantics.specs.declared.types.ValueType.TheVariants as kind
 use Rattle.strc_statements.specs.Texts.{Place}
 use Rattle.strc_statements.specs.declared.error.ElabError.{ElabError}
 use Rattle.strc_statements.specs.declared.error.ElabErrorKind.TheVariants as refused
@@ -25,6 +25,7 @@ abbrev pub at_declaration : ℕ → LowerError → ElabError
 at_declaration declaration (lowering.UnknownName name) = refused.UnknownName name
 at_declaration declaration lowering.TypeMismatch = refused.TypeMismatch declaration
 at_declaration declaration (lowering.ConstFault cause) = refused.ConstFault cause
+at_declaration declaration lowering.BadArguments = refused.BadArguments declaration
 at_declaration declaration lowering.NoMemory = refused.NoMemory
 
 abbrev pub ruled : {A : Type 0} → (declaration : ℕ) → Result A LowerError → Result A ElabError
@@ -43,7 +44,7 @@ abbrev pub eval_checked : Place → TypedNames → ValueType → tree.Expr → S
 eval_checked place names kind value store =
     result_and_then (ruled place.declaration
     (expr_as (init_context place.constants) names kind value)) (λ value'.
-    computed (value_of no_io value' store))
+    computed (value_of alone value' store))
 
 -- an expression or an assignment as a statement; one that gives items or words away is refused
 -- here, as every text but a filter's bodies
@@ -52,7 +53,7 @@ abbrev pub simple_done : Place → TypedNames → (outer : ℕ) → tree.Stmt �
 simple_done place names outer statement store =
     result_and_then (ruled place.declaration
     (stmt_resolved (init_context place.constants) names outer statement)) (λ statement'.
-    computed (stmt_done no_io statement' store))
+    computed (stmt_done alone statement' store))
 
 -- a variable of a declaration, and its variables in turn, each checked and evaluated before the
 -- next one, which sees it
@@ -61,7 +62,7 @@ abbrev pub variable_done : Place → TypedNames → (outer : ℕ) → ValueType 
 variable_done place names outer kind cells variable store =
     result_and_then (ruled place.declaration
     (variable_resolved (init_context place.constants) names outer kind variable)) (λ variable'.
-    result_and_then (computed (initial_cells no_io cells variable'.initial store)) (λ initial.
+    result_and_then (computed (initial_cells alone cells variable'.initial store)) (λ initial.
     Ok (declared_in initial.1 variable.name initial.0)))
 
 abbrev pub variables_done : Place → TypedNames → (outer : ℕ) → ValueType → (cells : ℕ)

@@ -9,9 +9,9 @@ use Rattle.strc_syntax.specs.declared.tree.CompositeKind.{CompositeKind}
 use Rattle.strc_semantics.specs.Filters.{Filter}
 use Rattle.strc_semantics.specs.Firing.{Variables}
 use Rattle.strc_base.specs.Names.{has_name}
-use Rattle.strc_check.specs.Typing.{TypedNames}
-use Rattle.strc_check.specs.declared.types.ValueType.{ValueType}
-use Rattle.strc_check.specs.declared.types.ValueType.TheVariants as kind
+use Rattle.strc_semantics.specs.Typing.{TypedNames}
+use Rattle.strc_semantics.specs.declared.types.ValueType.{ValueType}
+use Rattle.strc_semantics.specs.declared.types.ValueType.TheVariants as kind
 
 -- names with their values; the first of a name counts
 abbrev pub Constants : Type 0

@@ -4,7 +4,7 @@ ghost use Rattle.std.specs.Prelude.{◌≡◌};
 ghost use Rattle.strc_syntax.specs.Tree as tree;
 ghost use Rattle.strc_syntax.specs.View.{expr_view, stmt_view};
 ghost use Rattle.strc_semantics.specs.Firing as firing;
-ghost use Rattle.strc_semantics.specs.Firing.{stmt_done, no_io};
+ghost use Rattle.strc_semantics.specs.Firing.{stmt_done, alone};
 ghost use Rattle.strc_statements.specs.Saying.{store_of, Does};
 ghost use Rattle.strc_statements.specs.Simple.{IsSimple, IsPlain};
 
@@ -19,7 +19,7 @@ use strc_syntax::tree::{AssignOperator, BinaryOperator, Expr, Stmt};
 /// substituted.
 pub fn do_simple(statement: &Stmt, store: &mut Store) -> Result<(), Cause>
     requires { IsSimple (stmt_view statement.now) }
-    ensures does { Does (stmt_done no_io (stmt_view statement.now) (store_of store.old)) result
+    ensures does { Does (stmt_done alone (stmt_view statement.now) (store_of store.old)) result
         (store_of store.new) }
     ensures names { store.new.variables.names ≡ store.old.variables.names }
 {
@@ -45,7 +45,7 @@ fn assign(
     expression: &Expr,
     store: &mut Store,
 ) -> Result<(), Cause>
-    ensures does { Does (stmt_done no_io (tree.Assign name.now operator (expr_view expression.now))
+    ensures does { Does (stmt_done alone (tree.Assign name.now operator (expr_view expression.now))
         (store_of store.old)) result (store_of store.new) }
     ensures names { store.new.variables.names ≡ store.old.variables.names }
 {
@@ -72,7 +72,7 @@ fn assign_element(
     expression: &Expr,
     store: &mut Store,
 ) -> Result<(), Cause>
-    ensures does { Does (firing.element_set no_io name.now operator (expr_view expression.now)
+    ensures does { Does (firing.element_set alone name.now operator (expr_view expression.now)
         (index, store_of store.old)) result (store_of store.new) }
     ensures names { store.new.variables.names ≡ store.old.variables.names }
 {
@@ -108,7 +108,7 @@ fn join_element(
     store: &mut Store,
 ) -> Result<(), Cause>
     requires { IsPlain operator }
-    ensures does { Does (firing.element_joined no_io name.now operator (expr_view expression.now)
+    ensures does { Does (firing.element_joined alone name.now operator (expr_view expression.now)
         (index, store_of store.old)) result (store_of store.new) }
     ensures names { store.new.variables.names ≡ store.old.variables.names }
 {

@@ -9,8 +9,8 @@ use crate::variables::Variables;
 use std::alloc::Global;
 use strc_base::memory::NoMemory;
 use strc_base::name::Name;
-use strc_check::constants::Constants;
-use strc_check::types::ValueType;
+use strc_semantics::constants::Constants;
+use strc_semantics::types::ValueType;
 
 /// The numbers that can be seen at a place of a body, as constants: the variables' values at this
 /// moment, and the body's own constants, but for those that a variable shadows.

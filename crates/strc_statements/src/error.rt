@@ -43,8 +43,9 @@ pub enum ElabErrorKind {
     /// More than 4,096 nodes.
     #[error("the program has more than 4096 nodes")]
     NodeLimit,
-    /// The wrong number of arguments; the declaration that holds the statement.
-    #[error("in declaration {stream}, counted from 0, a stream has the wrong number of arguments")]
+    /// A stream or a call of a helper function has the wrong number of arguments; the declaration
+    /// that holds it.
+    #[error("in declaration {stream}, counted from 0, there is a wrong number of arguments")]
     BadArguments { stream: usize },
     /// Weights that aren't allowed: their number, one below 0 or above 65,536, one of 0 for a
     /// stream that has items on that side or above 0 for one that hasn't; the declaration that

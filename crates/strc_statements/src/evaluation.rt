@@ -1,10 +1,10 @@
 // The values of expressions in a composite stream's body.
 
 ghost use Rattle.std.specs.Prelude.{◌≡◌, length, IfOk};
-ghost use Rattle.strc_syntax.specs.View.{expr_view};
+ghost use Rattle.strc_syntax.specs.View.{expr_view, listed_view};
 ghost use Rattle.strc_semantics.specs.Firing as firing;
-ghost use Rattle.strc_semantics.specs.Firing.{value_of, no_io, place_in, cells_named};
-ghost use Rattle.strc_statements.specs.Saying.{store_of, Evaluates};
+ghost use Rattle.strc_semantics.specs.Firing.{value_of, alone, place_in, cells_named};
+ghost use Rattle.strc_statements.specs.Saying.{store_of, Evaluates, Does, arguments_done};
 
 use crate::store::Store;
 use strc_base::name::Name;
@@ -15,8 +15,9 @@ use strc_syntax::tree::{Expr, StepOperator};
 
 /// The value of an expression whose names and types are checked and whose constants are
 /// substituted. A fault is that of the first part that has one, from left to right.
+#[cycle(value)]
 pub fn value(expression: &Expr, store: &mut Store) -> Result<i32, Cause>
-    ensures says { Evaluates (value_of no_io (expr_view expression.now) (store_of store.old)) result
+    ensures says { Evaluates (value_of alone (expr_view expression.now) (store_of store.old)) result
         (store_of store.new) }
     ensures names { store.new.variables.names ≡ store.old.variables.names }
 {
@@ -34,7 +35,12 @@ pub fn value(expression: &Expr, store: &mut Store) -> Result<i32, Cause>
             value(index, store)?;
             Err(Cause::PeekRange)
         }
-        Expr::Call(_, _) => Err(Cause::Calls),
+        Expr::Call(_, arguments) => {
+            match evaluate_arguments(arguments, store) {
+                Ok(()) => Err(Cause::Calls),
+                Err(cause) => Err(cause),
+            }
+        }
         Expr::Group(inner) => value(inner, store),
         Expr::Unary(operator, operand) => {
             let operand = value(operand, store)?;
@@ -63,6 +69,22 @@ pub fn value(expression: &Expr, store: &mut Store) -> Result<i32, Cause>
             }
         }
     }
+}
+
+/// Evaluates the arguments of a call, from left to right.
+#[cycle(value)]
+fn evaluate_arguments(arguments: &[Expr], store: &mut Store) -> Result<(), Cause>
+    ensures says { Does (arguments_done (listed_view arguments.now) (store_of store.old)) result
+        (store_of store.new) }
+    ensures names { store.new.variables.names ≡ store.old.variables.names }
+{
+    for argument in arguments {
+        match value(argument, store) {
+            Ok(_) => {}
+            Err(cause) => return Err(cause),
+        }
+    }
+    Ok(())
 }
 
 /// The place of an index in the array of a name, which is tested.

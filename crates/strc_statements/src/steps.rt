@@ -6,8 +6,8 @@ ghost use Rattle.std.specs.Option.{option_map};
 ghost use Rattle.strc_syntax.specs.Tree as tree;
 ghost use Rattle.strc_syntax.specs.View.{expr_view, variable_view, type_view};
 ghost use Rattle.strc_semantics.specs.Firing as firing;
-ghost use Rattle.strc_semantics.specs.Firing.{no_io};
-ghost use Rattle.strc_check.specs.Typing as typing;
+ghost use Rattle.strc_semantics.specs.Firing.{alone};
+ghost use Rattle.strc_semantics.specs.Typing as typing;
 ghost use Rattle.strc_statements.specs.Statements as spec;
 ghost use Rattle.strc_statements.specs.Saying.{store_of};
 ghost use Rattle.strc_statements.specs.Answers.{Gives, GivesCount, GivesCells, Done, IsVerdict};
@@ -19,15 +19,15 @@ use crate::evaluation;
 use crate::store::Store;
 use std::alloc::Global;
 use strc_base::name::Name;
-use strc_check::constants::Constants;
 use strc_check::context::init_context;
 use strc_check::error::{LowerError, LowerErrorKind};
 use strc_check::expression_rules::{resolve_as, resolve_expr, resolve_initial};
 use strc_check::site::Mismatch;
 use strc_check::statement_rules::{resolve_assigned, resolve_element};
 use strc_check::type_rules::LENGTH_LIMIT;
-use strc_check::types::ValueType;
+use strc_semantics::constants::Constants;
 use strc_semantics::fault::Cause;
+use strc_semantics::types::ValueType;
 use strc_syntax::tree::{AssignOperator, Expr, Variable, VariableType, Variables};
 
 /// Where a body's statements are: the number of the declaration that holds them, and the
@@ -50,6 +50,9 @@ pub fn at_declaration(declaration: usize, error: LowerError) -> ElabError
             stream: declaration,
         },
         LowerErrorKind::ConstFault { cause } => ElabErrorKind::ConstFault { cause },
+        LowerErrorKind::BadArguments => ElabErrorKind::BadArguments {
+            stream: declaration,
+        },
         LowerErrorKind::NoMemory => ElabErrorKind::NoMemory,
     };
     ElabError::new(kind, site)
@@ -246,7 +249,7 @@ impl Place<'_> {
         store: &mut Store,
     ) -> Result<Vec<i32>, ElabError>
         ensures gives { GivesCells (spec.computed
-            (firing.initial_cells no_io cells (option_map expr_view initial.now)
+            (firing.initial_cells alone cells (option_map expr_view initial.now)
             (store_of store.old))) result (store_of store.new) }
         ensures names { store.new.variables.names ≡ store.old.variables.names }
     {

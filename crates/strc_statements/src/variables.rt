@@ -6,8 +6,8 @@ use std::alloc::Global;
 use std::marker::Model;
 use strc_base::memory::NoMemory;
 use strc_base::name::Name;
-use strc_check::typed_scope::TypedScope;
-use strc_check::types::ValueType;
+use strc_semantics::typed_scope::TypedScope;
+use strc_semantics::types::ValueType;
 
 /// The variables that can be seen at a place of a body, with their types and the values of their
 /// cells: one cell for a number or a truth value, and one for each element of an array. Contracts

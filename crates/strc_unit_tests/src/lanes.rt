@@ -2,13 +2,13 @@
 
 use std::alloc::Global;
 use std::test::Fail;
-use strc_check::constants::Constants;
 use strc_code::code::Code;
 use strc_lex::lexer::lex;
 use strc_parse::parse;
 use strc_runner::lanes::firing::fire_lanes;
 use strc_runner::lanes::frame::LaneFrame;
 use strc_semantics::body::Body;
+use strc_semantics::constants::Constants;
 use strc_syntax::tree::StreamTree;
 use strc_work::firing::Fire;
 use strc_work::lowering::lower;

@@ -3,10 +3,10 @@
 use std::alloc::Global;
 use std::test::Fail;
 use strc_base::name::Name;
-use strc_check::constants::Constants;
 use strc_code::code::Code;
 use strc_lex::lexer::lex;
 use strc_parse::parse;
+use strc_semantics::constants::Constants;
 use strc_syntax::tree::{Program, StreamTree};
 use strc_work::lowering::lower;
 

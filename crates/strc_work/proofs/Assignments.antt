@@ -14,7 +14,8 @@ use Rattle.strc_code.specs.declared.inst.Inst.TheVariants as act
 use Rattle.strc_semantics.specs.Arithmetic.{wrapped, binary_value}
 use Rattle.strc_semantics.specs.Scoping.{Scope, total, slot_of, size_of}
 use Rattle.strc_semantics.specs.Closed.{IsNamed, IsClosed}
-use Rattle.strc_semantics.specs.Firing.{Port, Store, cells_named, cell_in, value_in, with_cell}
+use Rattle.strc_semantics.specs.Firing.{Setting, Store, cells_named, cell_in, value_in}
+use Rattle.strc_semantics.specs.Firing.{with_cell}
 use Rattle.strc_semantics.specs.Firing.{cell_set, assigned, assigned_value, place_in, tested_place}
 use Rattle.strc_semantics.specs.Firing.{place_of, element_joined, element_set, value_of}
 use Rattle.strc_code.specs.Nodes.{Machine, Act, before, slot_value, slot_written, inst_done}
@@ -25,10 +26,11 @@ use Rattle.strc_work.proofs.Variables.{scope_of, at, Holds, Holds-set_above, Hol
 use Rattle.strc_work.proofs.Variables.{scope_of-with_cell}
 use Rattle.strc_work.proofs.Related.{Related, then_related, nodes_done-before, then_last}
 use Rattle.strc_code.proofs.Spelled.{nodes_room-before}
+use Rattle.strc_work.proofs.Standing.{Stands}
 use Rattle.strc_work.proofs.Expressions.{Arrives, IsInSlot, Ready, machine_at, named_size}
-use Rattle.strc_work.proofs.Expressions.{named_cell, named_value, operand_runs}
+use Rattle.strc_work.proofs.Expressions.{machine_is, named_cell, named_value, operand_runs}
 use Rattle.strc_work.proofs.Elements.{place_within, same_place, operand_low, stored_holds}
-use Rattle.strc_work.proofs.ExpressionRuns.{expr_runs, left_stays, binary_step_done, machine_is}
+use Rattle.strc_work.proofs.ExpressionRuns.{expr_runs, left_stays, binary_step_done}
 use Rattle.strc_work.proofs.Reaching.{Reaches, RunsStmt, few}
 
 -- ---- variables
@@ -129,7 +131,7 @@ set_by_place names name size slot free before given m (Some place) named roomy s
     in_slot.names_are in_slot.holds (in_slot.size ∙ same) (below place refl))
 
 -- an element that gets a value, from where the index's code has led
-set_goes_on : (port : Port) (name : List ℕ) (index value : tree.Expr) (names : Scope)
+set_goes_on : (setting : Setting) (name : List ℕ) (index value : tree.Expr) (names : Scope)
     (store : Store) (slots : List ℤ) (first : ℤ × Store) (m1 : Machine) → let from =
     operand_slot names
     (writes_no_variable
@@ -139,7 +141,7 @@ set_goes_on : (port : Port) (name : List ℕ) (index value : tree.Expr) (names :
     → IsClosed names
     index → IsClosed
     names value
-    → Ready names
+    → Stands setting names → Ready names
     (total names) store
     slots → nodes_room
     (element_nodes names
@@ -152,16 +154,16 @@ set_goes_on : (port : Port) (name : List ℕ) (index value : tree.Expr) (names :
     → Related
     (Reaches names
     (length slots))
-    (element_set port
+    (element_set setting
     name assign.Set
     value first)
-    (nodes_done port
+    (nodes_done setting
     (element_nodes names
     name from assign.Set
     value (total names
     + 1)) m1)
-set_goes_on port name index value names store slots first m1 named closed closed' ready room
-    in_slot1
+set_goes_on setting name index value names store slots first m1 named closed closed' stands ready
+    room in_slot1
     =
     let free = total names + 1 in
     let from = operand_slot names (writes_no_variable value) index (total names) in
@@ -185,18 +187,18 @@ set_goes_on port name index value names store slots first m1 named closed closed
     let meant : ℤ × Store → Result Store Cause =
     λ given. result_and_then (place_of given.1 name first.0)
     (λ place. Ok (cell_set given.1 name place given.0)) in
-    let steps_are : nodes_done port (before c (one last)) m1
-    ≡ result_and_then (nodes_done port c (machine_at m1.slots first.1)) (inst_done port last)
-    = then_last port c last m1 ∙ ap
-    (λ m. result_and_then (nodes_done port c m) (inst_done port last))
+    let steps_are : nodes_done setting (before c (one last)) m1
+    ≡ result_and_then (nodes_done setting c (machine_at m1.slots first.1))
+    (inst_done setting.port last) = then_last setting c last m1 ∙ ap
+    (λ m. result_and_then (nodes_done setting c m) (inst_done setting.port last))
     (machine_is m1 first.1 in_slot1.traffic) in
-    subst (goal_is (result_and_then (value_of port value first.1) meant)) (sym steps_are)
+    subst (goal_is (result_and_then (value_of setting value first.1) meant)) (sym steps_are)
     (then_related (IsInSlot names at_value free m1.slots) (Reaches names (length slots))
-    (value_of port value first.1) (nodes_done port c (machine_at m1.slots first.1)) meant
-    (inst_done port last) (operand_runs port value
-    (expr_runs port value) names true free first.1 m1.slots closed' ready1 (omega arith))
+    (value_of setting value first.1) (nodes_done setting c (machine_at m1.slots first.1)) meant
+    (inst_done setting.port last) (operand_runs setting value
+    (expr_runs setting value) names true free first.1 m1.slots closed' stands ready1 (omega arith))
     (λ second m2 is in_slot2.
-    let index_is = left_stays port names index value
+    let index_is = left_stays setting names index value
     (total names) store slots first second m1 m2 closed ready is in_slot1 in_slot2.holds
     in_slot2.kept in
     let o = place_in (length (cells_named second.1.variables name)) first.0 in
@@ -211,7 +213,7 @@ set_goes_on port name index value names store slots first m1 named closed closed
     in_slot2.holds named e) in_slot2)))
 
 -- the value of a compound assignment, and its store
-joined_by_result : (port : Port) (names : Scope) (name : List ℕ) (size from free place : ℕ)
+joined_by_result : (setting : Setting) (names : Scope) (name : List ℕ) (size from free place : ℕ)
     (index : ℤ) (store : Store) (m : Machine) (r : Result ℤ Cause) → IsNamed names name
     → total names ≤ size → m.traffic ≡ store.traffic → scope_of store.variables ≡ names
     → Holds store.variables m.slots → length m.slots ≡ size → total names ≤ free → from < free
@@ -219,11 +221,11 @@ joined_by_result : (port : Port) (names : Scope) (name : List ℕ) (size from fr
     → place_in (size_of names name) index ≡ Some place
     → Related (Reaches names size) (result_and_then r (λ new. Ok (cell_set store name place new)))
     (result_and_then (result_and_then r (λ value. Ok (slot_written m free value)))
-    (nodes_done port (one (act.Store (slot_of names name) (size_of names name) from free))))
-joined_by_result port names name size from free place index store m
+    (nodes_done setting (one (act.Store (slot_of names name) (size_of names name) from free))))
+joined_by_result setting names name size from free place index store m
     (Err cause) named roomy traffic names_are holds same above low within lt index_is place_is =
     refl
-joined_by_result port names name size from free place index store m
+joined_by_result setting names name size from free place index store m
     (Ok new) named roomy traffic names_are holds same above low within lt index_is place_is =
     let base = slot_of names name in
     let m3 = slot_written m free new in
@@ -268,23 +270,25 @@ in_slot_beside names slot free other before given m value above more low in_slot
     }
 
 -- a compound assignment, from where the old value is in a free slot
-joined_goes_on : (port : Port) (name : List ℕ) (operator : BinaryOperator) (index value : tree.Expr)
+joined_goes_on : (setting : Setting) (name : List ℕ) (operator : BinaryOperator)
+    (index value : tree.Expr)
     (names : Scope) (store : Store) (slots : List ℤ) (first : ℤ × Store) (m1 : Machine) (place : ℕ)
     (old : ℤ) → let from = operand_slot names (writes_no_variable value) index (total names) in
     let free = total names + 1 in let c = operand_nodes names true value (free + 1) in
     let at_value = operand_slot names true value (free + 1) in let base = slot_of names name in
     let size = size_of names name in IsNamed names name → IsClosed names index
-    → IsClosed names value → Ready names (total names) store slots → nodes_room c ≤ length slots
+    → IsClosed names value → Stands setting names → Ready names (total names) store slots
+    → nodes_room c ≤ length slots
     → free < length slots → place < size → place_in size first.0 ≡ Some place
     → slot_value m1 free ≡ old → IsInSlot names from (total names) slots first m1
     → Related (Reaches names (length slots))
-    (result_and_then (value_of port value first.1)
+    (result_and_then (value_of setting value first.1)
     (λ given. result_and_then (binary_value operator old given.0)
     (λ new. Ok (cell_set given.1 name place new))))
-    (nodes_done port (before c (Act (binary_step operator free free at_value)
+    (nodes_done setting (before c (Act (binary_step operator free free at_value)
     (one (act.Store base size from free)))) m1)
-joined_goes_on port name operator index value names store slots first m1 place old named closed
-    closed' ready room_c within lt place_is old_is in_slot1 =
+joined_goes_on setting name operator index value names store slots first m1 place old named closed
+    closed' stands ready room_c within lt place_is old_is in_slot1 =
     let free = total names + 1 in
     let from = operand_slot names (writes_no_variable value) index (total names) in
     let c = operand_nodes names true value (free + 1) in
@@ -293,7 +297,7 @@ joined_goes_on port name operator index value names store slots first m1 place o
     let rest = Act (binary_step operator free free at_value) store_code in
     let size1 = in_slot1.size in
     let roomy = ready.roomy in
-    let low = operand_low port index names (writes_no_variable value)
+    let low = operand_low setting index names (writes_no_variable value)
     (total names) store slots closed ready in
     let ready1 : Ready names (free + 1) first.1 m1.slots =
     record {
@@ -308,44 +312,44 @@ joined_goes_on port name operator index value names store slots first m1 place o
     let meant : ℤ × Store → Result Store Cause =
     λ given. result_and_then (binary_value operator old given.0)
     (λ new. Ok (cell_set given.1 name place new)) in
-    let steps_are : nodes_done port (before c rest) m1
-    ≡ result_and_then (nodes_done port c (machine_at m1.slots first.1)) (nodes_done port rest)
-    = nodes_done-before port c rest m1
-    ∙ ap (λ m. result_and_then (nodes_done port c m) (nodes_done port rest))
+    let steps_are : nodes_done setting (before c rest) m1
+    ≡ result_and_then (nodes_done setting c (machine_at m1.slots first.1))
+    (nodes_done setting rest) = nodes_done-before setting c rest m1
+    ∙ ap (λ m. result_and_then (nodes_done setting c m) (nodes_done setting rest))
     (machine_is m1 first.1 in_slot1.traffic) in
-    subst (goal_is (result_and_then (value_of port value first.1) meant)) (sym steps_are)
+    subst (goal_is (result_and_then (value_of setting value first.1) meant)) (sym steps_are)
     (then_related (IsInSlot names at_value (free + 1) m1.slots) (Reaches names (length slots))
-    (value_of port value first.1) (nodes_done port c (machine_at m1.slots first.1)) meant
-    (nodes_done port rest) (operand_runs port value (expr_runs port value) names true
-    (free + 1) first.1 m1.slots closed' ready1 (omega arith)) (λ second m2 is in_slot2.
-    let index_is = left_stays port names index value
+    (value_of setting value first.1) (nodes_done setting c (machine_at m1.slots first.1)) meant
+    (nodes_done setting rest) (operand_runs setting value (expr_runs setting value) names true
+    (free + 1) first.1 m1.slots closed' stands ready1 (omega arith)) (λ second m2 is in_slot2.
+    let index_is = left_stays setting names index value
     (total names) store slots first second m1 m2 closed ready is in_slot1 in_slot2.holds
     (λ k bottom high. in_slot2.kept k bottom (omega arith)) in
     let old2 : slot_value m2 free ≡ old = in_slot2.kept free (omega arith) (omega arith) ∙ old_is in
-    let done_is : inst_done port (binary_step operator free free at_value) m2
+    let done_is : inst_done setting.port (binary_step operator free free at_value) m2
     ≡ result_and_then (binary_value operator old second.0) (λ v. Ok (slot_written m2 free v))
     =
-    binary_step_done port operator free free at_value m2
+    binary_step_done setting.port operator free free at_value m2
     ∙ ap (λ v. result_and_then (binary_value operator v (slot_value m2 at_value))
     (λ w. Ok (slot_written m2 free w))) old2
     ∙ ap (λ v. result_and_then (binary_value operator old v) (λ w. Ok (slot_written m2 free w)))
     in_slot2.value in
     subst (goal_is (meant second)) (sym (ap
-    (λ r. result_and_then r (nodes_done port store_code)) done_is))
-    (joined_by_result port names name (length slots) from free place first.0 second.1 m2
+    (λ r. result_and_then r (nodes_done setting store_code)) done_is))
+    (joined_by_result setting names name (length slots) from free place first.0 second.1 m2
     (binary_value operator old second.0) named roomy in_slot2.traffic in_slot2.names_are
     in_slot2.holds (in_slot2.size ∙ size1) (omega arith)
     (omega arith) within lt index_is place_is)))
 
 -- a compound assignment, from where the index's code has led
-compound_by_place : (port : Port) (name : List ℕ) (operator : BinaryOperator)
+compound_by_place : (setting : Setting) (name : List ℕ) (operator : BinaryOperator)
     (index value : tree.Expr) (names : Scope) (store : Store) (slots : List ℤ) (first : ℤ × Store)
     (m1 : Machine) (o : Option ℕ) → let from =
     operand_slot names (writes_no_variable value) index
     (total names) in
     IsNamed names name → IsClosed names index
     → IsClosed names value
-    → Ready names (total names) store slots
+    → Stands setting names → Ready names (total names) store slots
     → nodes_room
     (compound_nodes names name from operator value
     (total names + 1)) ≤ length slots
@@ -356,15 +360,15 @@ compound_by_place : (port : Port) (name : List ℕ) (operator : BinaryOperator)
     → Related (Reaches names (length slots))
     (result_and_then (tested_place o)
     (λ place. let old = cell_in first.1 name place in
-    result_and_then (value_of port value first.1)
+    result_and_then (value_of setting value first.1)
     (λ given. result_and_then
     (binary_value operator old given.0)
     (λ new. Ok (cell_set given.1 name place new)))))
-    (nodes_done port
+    (nodes_done setting
     (compound_nodes names name from operator value
     (total names + 1)) m1)
-compound_by_place port name operator index value names store slots first m1 None named closed
-    closed' ready room below place_is in_slot1 =
+compound_by_place setting name operator index value names store slots first m1 None named closed
+    closed' stands ready room below place_is in_slot1 =
     let free = total names + 1 in
     let from = operand_slot names (writes_no_variable value) index (total names) in
     let base = slot_of names name in
@@ -375,12 +379,12 @@ compound_by_place port name operator index value names store slots first m1 None
     let loads : Option ℕ → Result Machine Cause =
     λ p. result_and_then (result_and_then (tested_place p)
     (λ place. Ok (slot_written m1 free (slot_value m1 (base + place)))))
-    (nodes_done port rest) in
+    (nodes_done setting rest) in
     let found : place_in (size_of names name) (slot_value m1 from) ≡ None =
     ap (place_in (size_of names name)) in_slot1.value ∙ place_is in
     subst (Related (Reaches names (length slots)) (Err Index)) (sym (ap loads found)) refl
-compound_by_place port name operator index value names store slots first m1
-    (Some place) named closed closed' ready room below place_is in_slot1 =
+compound_by_place setting name operator index value names store slots first m1
+    (Some place) named closed closed' stands ready room below place_is in_slot1 =
     let free = total names + 1 in
     let from = operand_slot names (writes_no_variable value) index (total names) in
     let base = slot_of names name in
@@ -398,85 +402,86 @@ compound_by_place port name operator index value names store slots first m1
     let old_is =
     named_cell names first.1 m1.slots name place in_slot1.names_are in_slot1.holds named
     lt in
-    let low = operand_low port index names (writes_no_variable value)
+    let low = operand_low setting index names (writes_no_variable value)
     (total names) store slots closed ready in
     let loads : Option ℕ → Result Machine Cause =
     λ p. result_and_then (result_and_then (tested_place p)
     (λ place. Ok (slot_written m1 free (slot_value m1 (base + place)))))
-    (nodes_done port rest) in
+    (nodes_done setting rest) in
     let found : place_in (size_of names name) (slot_value m1 from) ≡ Some place =
     ap (place_in (size_of names name)) in_slot1.value ∙ place_is in
-    let loaded : loads (Some place) ≡ nodes_done port rest (slot_written m1 free old) =
-    ap (λ v. nodes_done port rest (slot_written m1 free v)) old_is in
-    let meant : Result Store Cause = result_and_then (value_of port value first.1)
+    let loaded : loads (Some place) ≡ nodes_done setting rest (slot_written m1 free old) =
+    ap (λ v. nodes_done setting rest (slot_written m1 free v)) old_is in
+    let meant : Result Store Cause = result_and_then (value_of setting value first.1)
     (λ given. result_and_then (binary_value operator old given.0)
     (λ new. Ok (cell_set given.1 name place new))) in
     let in_slot2 : IsInSlot names from (total names) slots first (slot_written m1 free old) =
     in_slot_beside names from (total names) free slots first m1 old (omega arith)
     (omega arith) low in_slot1 in
     subst (Related (Reaches names (length slots)) meant) (sym (ap loads found ∙ loaded))
-    (joined_goes_on port name operator index value names store slots first
-    (slot_written m1 free old) place old named closed closed' ready room_c within lt place_is
+    (joined_goes_on setting name operator index value names store slots first
+    (slot_written m1 free old) place old named closed closed' stands ready room_c within lt place_is
     (get_or-set_same m1.slots free old (pos 0) within1) in_slot2)
 
-compound_goes_on : (port : Port) (name : List ℕ) (operator : BinaryOperator)
+compound_goes_on : (setting : Setting) (name : List ℕ) (operator : BinaryOperator)
     (index value : tree.Expr) (names : Scope) (store : Store) (slots : List ℤ) (first : ℤ × Store)
     (m1 : Machine) → let from = operand_slot names (writes_no_variable value) index (total names) in
     IsNamed names name → IsClosed names index → IsClosed names value
-    → Ready names (total names) store slots
+    → Stands setting names → Ready names (total names) store slots
     → nodes_room (compound_nodes names name from operator value (total names + 1)) ≤ length slots
     → IsInSlot names from (total names) slots first m1
-    → Related (Reaches names (length slots)) (element_joined port name operator value first)
-    (nodes_done port (compound_nodes names name from operator value (total names + 1)) m1)
-compound_goes_on port name operator index value names store slots first m1 named closed closed'
-    ready room in_slot1 =
+    → Related (Reaches names (length slots)) (element_joined setting name operator value first)
+    (nodes_done setting (compound_nodes names name from operator value (total names + 1)) m1)
+compound_goes_on setting name operator index value names store slots first m1 named closed closed'
+    stands ready room in_slot1 =
     let variables = first.1.variables in
     let o = place_in (length (cells_named variables name)) first.0 in
     let place_is : place_in (size_of names name) first.0 ≡ o =
     ap (λ n. place_in n first.0) (sym
     (named_size names variables m1.slots name in_slot1.names_are in_slot1.holds named)) in
-    compound_by_place port name operator index value names store slots first m1 o named closed
-    closed' ready room (λ place e. place_within names name first.1 m1.slots first.0 place
+    compound_by_place setting name operator index value names store slots first m1 o named closed
+    closed' stands ready room (λ place e. place_within names name first.1 m1.slots first.0 place
     in_slot1.names_are in_slot1.holds named e) place_is in_slot1
 
-element_goes_on : (port : Port) (name : List ℕ) (operator : AssignOperator)
+element_goes_on : (setting : Setting) (name : List ℕ) (operator : AssignOperator)
     (index value : tree.Expr) (names : Scope) (store : Store) (slots : List ℤ) (first : ℤ × Store)
     (m1 : Machine) → let from = operand_slot names (writes_no_variable value) index (total names) in
     IsNamed names name → IsClosed names index → IsClosed names value
-    → Ready names (total names) store slots
+    → Stands setting names → Ready names (total names) store slots
     → nodes_room (element_nodes names name from operator value (total names + 1)) ≤ length slots
     → IsInSlot names from (total names) slots first m1
-    → Related (Reaches names (length slots)) (element_set port name operator value first)
-    (nodes_done port (element_nodes names name from operator value (total names + 1)) m1)
-element_goes_on port name assign.Set index value names store slots first m1 named closed closed'
-    ready room in_slot =
-    set_goes_on port name index value names store slots first m1 named closed closed' ready room
-    in_slot
-element_goes_on port name assign.Add index value names store slots first m1 named closed closed'
-    ready room in_slot =
-    compound_goes_on port name binary.Add index value names store slots first m1 named closed
-    closed' ready room in_slot
-element_goes_on port name assign.Subtract index value names store slots first m1 named closed
-    closed' ready room in_slot =
-    compound_goes_on port name binary.Subtract index value names store slots first m1 named closed
-    closed' ready room in_slot
-element_goes_on port name assign.Multiply index value names store slots first m1 named closed
-    closed' ready room in_slot =
-    compound_goes_on port name binary.Multiply index value names store slots first m1 named closed
-    closed' ready room in_slot
-element_goes_on port name assign.Divide index value names store slots first m1 named closed closed'
-    ready room in_slot =
-    compound_goes_on port name binary.Divide index value names store slots first m1 named closed
-    closed' ready room in_slot
-element_goes_on port name assign.Remainder index value names store slots first m1 named closed
-    closed' ready room in_slot =
-    compound_goes_on port name binary.Remainder index value names store slots first m1 named closed
-    closed' ready room in_slot
+    → Related (Reaches names (length slots)) (element_set setting name operator value first)
+    (nodes_done setting (element_nodes names name from operator value (total names + 1)) m1)
+element_goes_on setting name assign.Set index value names store slots first m1 named closed closed'
+    stands ready room in_slot =
+    set_goes_on setting name index value names store slots first m1 named closed closed' stands
+    ready room in_slot
+element_goes_on setting name assign.Add index value names store slots first m1 named closed closed'
+    stands ready room in_slot =
+    compound_goes_on setting name binary.Add index value names store slots first m1 named closed
+    closed' stands ready room in_slot
+element_goes_on setting name assign.Subtract index value names store slots first m1 named closed
+    closed' stands ready room in_slot =
+    compound_goes_on setting name binary.Subtract index value names store slots first m1 named
+    closed closed' stands ready room in_slot
+element_goes_on setting name assign.Multiply index value names store slots first m1 named closed
+    closed' stands ready room in_slot =
+    compound_goes_on setting name binary.Multiply index value names store slots first m1 named
+    closed closed' stands ready room in_slot
+element_goes_on setting name assign.Divide index value names store slots first m1 named closed
+    closed' stands ready room in_slot =
+    compound_goes_on setting name binary.Divide index value names store slots first m1 named closed
+    closed' stands ready room in_slot
+element_goes_on setting name assign.Remainder index value names store slots first m1 named closed
+    closed' stands ready room in_slot =
+    compound_goes_on setting name binary.Remainder index value names store slots first m1 named
+    closed closed' stands ready room in_slot
 
 -- an assignment to an element
-pub element_assigned : (port : Port) (name : List ℕ) (index : tree.Expr) (operator : AssignOperator)
-    (value : tree.Expr) → RunsStmt port (tree.AssignElement name index operator value)
-element_assigned port name index operator value names store slots closed ready room =
+pub element_assigned : (setting : Setting) (name : List ℕ) (index : tree.Expr)
+    (operator : AssignOperator)
+    (value : tree.Expr) → RunsStmt setting (tree.AssignElement name index operator value)
+element_assigned setting name index operator value names store slots runnable stands ready room =
     let may_alias = writes_no_variable value in
     let a = operand_nodes names may_alias index (total names) in
     let from = operand_slot names may_alias index (total names) in
@@ -484,12 +489,12 @@ element_assigned port name index operator value names store slots closed ready r
     let room_a : nodes_room a ≤ length slots = omega (arith, nodes_room-before a b) in
     let room_b : nodes_room b ≤ length slots = omega (arith, nodes_room-before a b) in
     subst (Related (Reaches names (length slots))
-    (result_and_then (value_of port index store) (element_set port name operator value)))
-    (sym (nodes_done-before port a b (machine_at slots store)))
+    (result_and_then (value_of setting index store) (element_set setting name operator value)))
+    (sym (nodes_done-before setting a b (machine_at slots store)))
     (then_related (IsInSlot names from (total names) slots) (Reaches names (length slots))
-    (value_of port index store) (nodes_done port a (machine_at slots store))
-    (element_set port name operator value) (nodes_done port b)
-    (operand_runs port index (expr_runs port index) names may_alias
-    (total names) store slots closed.1 ready room_a) (λ first m1 is in_slot.
-    element_goes_on port name operator index value names store slots first m1 closed.0 closed.1
-    closed.2 ready room_b in_slot))
+    (value_of setting index store) (nodes_done setting a (machine_at slots store))
+    (element_set setting name operator value) (nodes_done setting b)
+    (operand_runs setting index (expr_runs setting index) names may_alias
+    (total names) store slots runnable.0.1 stands ready room_a) (λ first m1 is in_slot.
+    element_goes_on setting name operator index value names store slots first m1 runnable.0.0
+    runnable.0.1 runnable.0.2 stands ready room_b in_slot))

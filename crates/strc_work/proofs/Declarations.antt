@@ -10,13 +10,14 @@ use Rattle.strc_syntax.specs.Tree as tree
 use Rattle.strc_semantics.specs.declared.fault.Cause.{Cause}
 use Rattle.strc_semantics.specs.Scoping.{Scope, total, with_declared}
 use Rattle.strc_semantics.specs.Closed.{IsClosedInitial, FitsInitial, AreClosedVariables}
-use Rattle.strc_semantics.specs.Firing.{Port, Store, value_of, declared_in, initial_cells}
+use Rattle.strc_semantics.specs.Firing.{Setting, Store, value_of, declared_in, initial_cells}
 use Rattle.strc_semantics.specs.Firing.{variables_declared}
 use Rattle.strc_code.specs.Nodes.{Machine, cleared, nodes_done, nodes_room}
 use Rattle.strc_code.specs.Lowering.{expr_nodes, initial_nodes, variables_nodes}
 use Rattle.strc_work.proofs.Variables.{scope_of, at, HoldsFrom, Holds, Holds-same, Holds-set_above}
 use Rattle.strc_work.proofs.Related.{Related, then_related, map_related, nodes_done-before}
 use Rattle.strc_code.proofs.Spelled.{nodes_room-before}
+use Rattle.strc_work.proofs.Standing.{Stands, stands_declared}
 use Rattle.strc_work.proofs.Expressions.{Arrives, Ready, machine_at, expr_room}
 use Rattle.strc_work.proofs.ExpressionRuns.{expr_runs}
 use Rattle.strc_work.proofs.Reaching.{Reaches, empty_reaches, go_on}
@@ -158,28 +159,29 @@ initial_room names (suc (suc more)) None into free closed fits = omega arith
 initial_room names cells (Some initial) into free closed fits =
     let room = expr_room names initial into free closed in omega arith
 
-initial_runs : (port : Port) (initial : Option tree.Expr) (names : Scope) (cells : ℕ)
+initial_runs : (setting : Setting) (initial : Option tree.Expr) (names : Scope) (cells : ℕ)
     (store : Store) (slots : List ℤ) → IsClosedInitial names initial → FitsInitial cells initial
-    → Ready names (total names + cells) store slots
+    → Stands setting names → Ready names (total names + cells) store slots
     → nodes_room (initial_nodes names cells initial (total names) (total names + cells))
     ≤ length slots → total names + cells ≤ length slots
-    → Related (Declares names cells (length slots)) (initial_cells port cells initial store)
-    (nodes_done port (initial_nodes names cells initial (total names) (total names + cells))
+    → Related (Declares names cells (length slots)) (initial_cells setting cells initial store)
+    (nodes_done setting (initial_nodes names cells initial (total names) (total names + cells))
     (machine_at slots store))
-initial_runs port None names zero store slots closed fits ready room within = absurd (omega arith)
-initial_runs port None names (suc zero) store slots closed fits ready room within =
+initial_runs setting None names zero store slots closed fits stands ready room within = absurd
+    (omega arith)
+initial_runs setting None names (suc zero) store slots closed fits stands ready room within =
     value_declares names 1 (pos 0) store slots (length slots) ready.names_are ready.holds refl
     (omega arith) refl
-initial_runs port None names (suc (suc more)) store slots closed fits ready room within =
+initial_runs setting None names (suc (suc more)) store slots closed fits stands ready room within =
     zeros_declare names (suc (suc more)) store slots ready within
-initial_runs port (Some initial) names cells store slots closed fits ready room within =
+initial_runs setting (Some initial) names cells store slots closed fits stands ready room within =
     let into = total names in
     let free = total names + cells in
     let lt : into < length slots = omega arith in
     map_related (Arrives names into free slots) (Declares names cells (length slots))
-    (λ given. (given.0 ∷ [], given.1)) (value_of port initial store)
-    (nodes_done port (expr_nodes names initial into free) (machine_at slots store))
-    (expr_runs port initial names into free store slots closed ready room)
+    (λ given. (given.0 ∷ [], given.1)) (value_of setting initial store)
+    (nodes_done setting (expr_nodes names initial into free) (machine_at slots store))
+    (expr_runs setting initial names into free store slots closed stands ready room)
     (λ given after arrives.
     subst (Declares names cells (length slots) (given.0 ∷ [], given.1)) (sym arrives.written)
     (value_declares names cells given.0 given.1 arrives.slots
@@ -187,24 +189,26 @@ initial_runs port (Some initial) names cells store slots closed fits ready room 
 
 -- ---- variables
 
-abbrev RunsVariables : Port → (cells : ℕ) → List tree.Variable → Type 0
-RunsVariables port cells vs = (names : Scope) (store : Store) (slots : List ℤ)
-    → AreClosedVariables names cells vs → Ready names (total names) store slots
+abbrev RunsVariables : Setting → (cells : ℕ) → List tree.Variable → Type 0
+RunsVariables setting cells vs = (names : Scope) (store : Store) (slots : List ℤ)
+    → AreClosedVariables names cells vs → Stands setting names
+    → Ready names (total names) store slots
     → nodes_room (variables_nodes names cells vs) ≤ length slots
     → Related (Reaches (with_declared names cells vs) (length slots))
-    (variables_declared port cells vs store)
-    (nodes_done port (variables_nodes names cells vs) (machine_at slots store))
+    (variables_declared setting cells vs store)
+    (nodes_done setting (variables_nodes names cells vs) (machine_at slots store))
 
 -- the code of variables that are declared one after another
-pub variables_run : (port : Port) (cells : ℕ) (vs : List tree.Variable)
-    → RunsVariables port cells vs
-variables_run port cells [] names store slots closed ready room =
+pub variables_run : (setting : Setting) (cells : ℕ) (vs : List tree.Variable)
+    → RunsVariables setting cells vs
+variables_run setting cells [] names store slots closed stands ready room =
     empty_reaches names store slots ready
-variables_run port cells (first ∷ rest) names store slots closed ready room =
+variables_run setting cells (first ∷ rest) names store slots closed stands ready room =
     let free = total names + cells in
     let names' : Scope = record { 0 = first.name; 1 = cells } ∷ names in
     let a = initial_nodes names cells first.initial (total names) free in
     let b = variables_nodes names' cells rest in
+    let stands' = stands_declared setting names (record { 0 = first.name; 1 = cells }) stands in
     let some = some_cell cells first.initial closed.1 in
     let within : free ≤ length slots = omega (
       arith,
@@ -223,18 +227,19 @@ variables_run port cells (first ∷ rest) names store slots closed ready room =
           ready.roomy;
     } in
     let go : List ℤ × Store → Result Store Cause =
-    λ given. variables_declared port cells rest (declared_in given.1 first.name given.0) in
+    λ given. variables_declared setting cells rest (declared_in given.1 first.name given.0) in
     subst (Related (Reaches (with_declared names' cells rest) (length slots))
-    (result_and_then (initial_cells port cells first.initial store) go))
-    (sym (nodes_done-before port a b (machine_at slots store)))
+    (result_and_then (initial_cells setting cells first.initial store) go))
+    (sym (nodes_done-before setting a b (machine_at slots store)))
     (then_related (Declares names cells (length slots))
     (Reaches (with_declared names' cells rest) (length slots))
-    (initial_cells port cells first.initial store) (nodes_done port a (machine_at slots store)) go
-    (nodes_done port b) (initial_runs port first.initial names cells store slots closed.0 closed.1
-    ready' room_a within) (λ given m is declares.
-    go_on port b names' (with_declared names' cells rest) (length slots)
-    (variables_declared port cells rest)
-    (λ store' slots' same ready''. variables_run port cells rest names' store' slots' closed.2
-    ready'' (omega arith))
+    (initial_cells setting cells first.initial store)
+    (nodes_done setting a (machine_at slots store)) go
+    (nodes_done setting b) (initial_runs setting first.initial names cells store slots closed.0
+    closed.1 stands ready' room_a within) (λ given m is declares.
+    go_on setting b names' (with_declared names' cells rest) (length slots)
+    (variables_declared setting cells rest)
+    (λ store' slots' same ready''. variables_run setting cells rest names' store' slots' closed.2
+    stands' ready'' (omega arith))
     (declared_in given.1 first.name given.0) m
     (declared_reaches names first.name cells (length slots) given m some within declares)))

@@ -15,7 +15,8 @@ use Rattle.strc_code.specs.declared.inst.Inst.TheVariants as act
 use Rattle.strc_semantics.specs.Arithmetic.{wrapped}
 use Rattle.strc_semantics.specs.Scoping.{Scope, total, slot_of, size_of}
 use Rattle.strc_semantics.specs.Closed.{IsNamed, IsClosed}
-use Rattle.strc_semantics.specs.Firing.{Port, Store, cells_named, cell_in, with_cell, cell_set}
+use Rattle.strc_semantics.specs.Firing.{Setting, Store, cells_named, cell_in, with_cell}
+use Rattle.strc_semantics.specs.Firing.{cell_set}
 use Rattle.strc_semantics.specs.Firing.{place_in, tested_place, place_of, value_stepped, step_value}
 use Rattle.strc_semantics.specs.Firing.{value_of}
 use Rattle.strc_code.specs.Nodes.{Machine, Act, before, slot_value, slot_written, inst_done}
@@ -65,12 +66,12 @@ same_place names name store slots index m from names_are holds named value =
     (named_size names store.variables slots name names_are holds named))
 
 -- an operand is at or below the first free slot
-pub operand_low : (port : Port) (e : tree.Expr) (names : Scope) (may_alias : Bool) (free : ℕ)
+pub operand_low : (setting : Setting) (e : tree.Expr) (names : Scope) (may_alias : Bool) (free : ℕ)
     (store : Store) (slots : List ℤ) → IsClosed names e → Ready names free store slots
     → operand_slot names may_alias e free ≤ free
-operand_low port e names may_alias free store slots closed ready =
+operand_low setting e names may_alias free store slots closed ready =
     by_place (alias_slot names may_alias e)
-    (λ slot is. (variable_runs port e names free slot store slots
+    (λ slot is. (variable_runs setting e names free slot store slots
     (aliased_slot names may_alias e slot is).1 closed ready).1)
   where
     by_place : (o : Option ℕ) → ((slot : ℕ) → o ≡ Some slot → slot < total names)
@@ -124,9 +125,9 @@ load_arrives names name into from free before given m (Some place) named below i
       size = in_slot.size;
     }
 
-pub element_runs : (port : Port) (name : List ℕ) (index : tree.Expr) → Runs port index
-    → Runs port (tree.Element name index)
-element_runs port name index run names into free store slots closed ready room =
+pub element_runs : (setting : Setting) (name : List ℕ) (index : tree.Expr) → Runs setting index
+    → Runs setting (tree.Element name index)
+element_runs setting name index run names into free store slots closed stands ready room =
     let a = operand_nodes names true index free in
     let from = operand_slot names true index free in
     let base = slot_of names name in
@@ -137,12 +138,12 @@ element_runs port name index run names into free store slots closed ready room =
     (λ place. Ok (cell_in given.1 name place, given.1)) in
     let goal_is : Result (ℤ × Store) Cause → Result Machine Cause → Type 0 =
     Related (Arrives names into free slots) in
-    subst (goal_is (result_and_then (value_of port index store) meant_last))
-    (sym (then_last port a last (machine_at slots store)))
+    subst (goal_is (result_and_then (value_of setting index store) meant_last))
+    (sym (then_last setting a last (machine_at slots store)))
     (then_related (IsInSlot names from free slots) (Arrives names into free slots)
-    (value_of port index store) (nodes_done port a (machine_at slots store)) meant_last
-    (inst_done port last) (operand_runs port index run names true free store slots closed.1 ready
-    room_a) (λ given m is in_slot.
+    (value_of setting index store) (nodes_done setting a (machine_at slots store)) meant_last
+    (inst_done setting.port last) (operand_runs setting index run names true free store slots
+    closed.1 stands ready room_a) (λ given m is in_slot.
     let o = place_in (length (cells_named given.1.variables name)) given.0 in
     let place_is = same_place names name given.1 m.slots given.0 m from in_slot.names_are
     in_slot.holds closed.0 in_slot.value in
@@ -176,14 +177,14 @@ abbrev pub stepped_machine : (m : Machine) (f slot : ℕ) (old new : ℤ) → Ma
 stepped_machine m f slot old new = slot_written
     (slot_written (slot_written m f old) (f + 1) new) slot new
 
-stepped_code : (port : Port) (operator : StepOperator) (base size from into f place : ℕ)
+stepped_code : (setting : Setting) (operator : StepOperator) (base size from into f place : ℕ)
     (old new : ℤ) (m : Machine) → place_in size (slot_value m from) ≡ Some place
     → slot_value m (base + place) ≡ old → wrapped (old +ℤ step_amount operator) ≡ new
     → base + place < f → from < f → f + 1 < length m.slots
-    → nodes_done port (element_step_nodes operator base size from into f) m
+    → nodes_done setting (element_step_nodes operator base size from into f) m
     ≡ Ok (slot_written (stepped_machine m f (base + place) old new) into
     (step_value operator old new))
-stepped_code port operator base size from into f place old new m place_is old_is new_is below low
+stepped_code setting operator base size from into f place old new m place_is old_is new_is below low
     room =
     let slots = m.slots in
     let amount = step_amount operator in
@@ -213,27 +214,28 @@ stepped_code port operator base size from into f place old new m place_is old_is
     ∙ get_or-set_other slots f from old (pos 0) from_apart in
     let loads : Option ℕ → Result Machine Cause =
     λ o. result_and_then (result_and_then (tested_place o)
-    (λ p. Ok (slot_written m f (slot_value m (base + p))))) (nodes_done port rest1) in
+    (λ p. Ok (slot_written m f (slot_value m (base + p))))) (nodes_done setting rest1) in
     let stores : Option ℕ → Result Machine Cause =
     λ o. result_and_then (result_and_then (tested_place o)
-    (λ p. Ok (slot_written m2 (base + p) (slot_value m2 (f + 1))))) (nodes_done port rest3) in
-    let adds : ℤ → Result Machine Cause = λ v. nodes_done port rest2 (slot_written m1 (f + 1) v) in
+    (λ p. Ok (slot_written m2 (base + p) (slot_value m2 (f + 1))))) (nodes_done setting rest3) in
+    let adds : ℤ → Result Machine Cause = λ v. nodes_done setting rest2
+    (slot_written m1 (f + 1) v) in
     let copies : ℤ → Result Machine Cause = λ v. Ok (slot_written m3 into v) in
-    let step1 : nodes_done port (element_step_nodes operator base size from into f) m
+    let step1 : nodes_done setting (element_step_nodes operator base size from into f) m
     ≡ loads (Some place) = ap loads place_is in
-    let step2 : loads (Some place) ≡ nodes_done port rest1 m1 =
-    ap (λ v. nodes_done port rest1 (slot_written m f v)) old_is in
-    let step3 : nodes_done port rest1 m1 ≡ nodes_done port rest2 m2 =
+    let step2 : loads (Some place) ≡ nodes_done setting rest1 m1 =
+    ap (λ v. nodes_done setting rest1 (slot_written m f v)) old_is in
+    let step3 : nodes_done setting rest1 m1 ≡ nodes_done setting rest2 m2 =
     ap (λ v. adds (wrapped (v +ℤ amount))) old1 ∙ ap adds new_is in
-    let step4 : nodes_done port rest2 m2 ≡ stores (Some place) =
+    let step4 : nodes_done setting rest2 m2 ≡ stores (Some place) =
     ap stores (ap (place_in size) from2 ∙ place_is) in
-    let step5 : stores (Some place) ≡ nodes_done port rest3 m3 =
-    ap (λ v. nodes_done port rest3 (slot_written m2 (base + place) v)) new2 in
-    let step6 : nodes_done port rest3 m3 ≡ copies (step_value operator old new) =
+    let step5 : stores (Some place) ≡ nodes_done setting rest3 m3 =
+    ap (λ v. nodes_done setting rest3 (slot_written m2 (base + place) v)) new2 in
+    let step6 : nodes_done setting rest3 m3 ≡ copies (step_value operator old new) =
     ap copies (step_result_is operator m3 f (f + 1) old new old3 new3) in
     step1 ∙ step2 ∙ step3 ∙ step4 ∙ step5 ∙ step6
 
-step_element_arrives : (port : Port) (operator : StepOperator) (names : Scope) (name : List ℕ)
+step_element_arrives : (setting : Setting) (operator : StepOperator) (names : Scope) (name : List ℕ)
     (into from free : ℕ) (before : List ℤ) (given : ℤ × Store) (m : Machine) (o : Option ℕ)
     → IsNamed names name → total names ≤ free → total names ≤ length before → from ≤ free
     → free + 1 + 1 < length before → ((place : ℕ) → o ≡ Some place → place < size_of names name)
@@ -243,19 +245,19 @@ step_element_arrives : (port : Port) (operator : StepOperator) (names : Scope) (
     (result_and_then (tested_place o) (λ place. let old = cell_in given.1 name place in let new =
     value_stepped operator old in Ok
     (step_value operator old new, cell_set given.1 name place new)))
-    (nodes_done port (element_step_nodes operator (slot_of names name) (size_of names name)
+    (nodes_done setting (element_step_nodes operator (slot_of names name) (size_of names name)
     from into (free + 1)) m)
-step_element_arrives port operator names name into from free before given m None named above roomy
-    low room below place_is in_slot =
+step_element_arrives setting operator names name into from free before given m None named above
+    roomy low room below place_is in_slot =
     let rest = Act (act.AddConst (free + 1 + 1) (free + 1) (step_amount operator))
     (Act (act.Store (slot_of names name) (size_of names name) from (free + 1 + 1))
     (one (act.Copy into (step_result operator (free + 1) (free + 1 + 1))))) in
     let loads : Option ℕ → Result Machine Cause =
     λ o. result_and_then (result_and_then (tested_place o)
     (λ p. Ok (slot_written m (free + 1) (slot_value m (slot_of names name + p)))))
-    (nodes_done port rest) in
+    (nodes_done setting rest) in
     subst (Related (Arrives names into free before) (Err Index)) (sym (ap loads place_is)) refl
-step_element_arrives port operator names name into from free before given m
+step_element_arrives setting operator names name into from free before given m
     (Some place) named above roomy low room below place_is in_slot =
     let f = free + 1 in
     let base = slot_of names name in
@@ -278,7 +280,7 @@ step_element_arrives port operator names name into from free before given m
     Holds-set_above given.1.variables slots f old (omega arith) in_slot.holds in
     let holds2 : Holds given.1.variables slots2 =
     Holds-set_above given.1.variables slots1 (f + 1) new (omega arith) holds1 in
-    let code_is = stepped_code port operator base
+    let code_is = stepped_code setting operator base
     (size_of names name) from into f place old new m place_is old_is
     (sym (stepped_is operator old)) (omega arith) (omega arith) (omega arith) in
     subst (Related (Arrives names into free before)
@@ -304,9 +306,11 @@ step_element_arrives port operator names name into from free before given m
       size = size3 ∙ size2 ∙ size1 ∙ size;
     })
 
-pub step_element_runs : (port : Port) (operator : StepOperator) (name : List ℕ) (index : tree.Expr)
-    → Runs port index → Runs port (tree.StepElement operator name index)
-step_element_runs port operator name index run names into free store slots closed ready room =
+pub step_element_runs : (setting : Setting) (operator : StepOperator) (name : List ℕ)
+    (index : tree.Expr)
+    → Runs setting index → Runs setting (tree.StepElement operator name index)
+step_element_runs setting operator name index run names into free store slots closed stands ready
+    room =
     let a = operand_nodes names true index free in
     let from = operand_slot names true index free in
     let base = slot_of names name in
@@ -319,17 +323,17 @@ step_element_runs port operator name index run names into free store slots close
     Ok (step_value operator old new, cell_set given.1 name place new)) in
     let goal_is : Result (ℤ × Store) Cause → Result Machine Cause → Type 0 =
     Related (Arrives names into free slots) in
-    let low = operand_low port index names true free store slots closed.1 ready in
-    subst (goal_is (result_and_then (value_of port index store) meant_last))
-    (sym (nodes_done-before port a last (machine_at slots store)))
+    let low = operand_low setting index names true free store slots closed.1 ready in
+    subst (goal_is (result_and_then (value_of setting index store) meant_last))
+    (sym (nodes_done-before setting a last (machine_at slots store)))
     (then_related (IsInSlot names from free slots) (Arrives names into free slots)
-    (value_of port index store) (nodes_done port a (machine_at slots store)) meant_last
-    (nodes_done port last) (operand_runs port index run names true free store slots closed.1 ready
-    room_a) (λ given m is in_slot.
+    (value_of setting index store) (nodes_done setting a (machine_at slots store)) meant_last
+    (nodes_done setting last) (operand_runs setting index run names true free store slots
+    closed.1 stands ready room_a) (λ given m is in_slot.
     let o = place_in (length (cells_named given.1.variables name)) given.0 in
     let place_is = same_place names name given.1 m.slots given.0 m from in_slot.names_are
     in_slot.holds closed.0 in_slot.value in
-    step_element_arrives port operator names name into from free slots given m o closed.0
+    step_element_arrives setting operator names name into from free slots given m o closed.0
     ready.above ready.roomy low room_last
     (λ place e. place_within names name given.1 m.slots given.0 place in_slot.names_are
     in_slot.holds closed.0 e) place_is in_slot))

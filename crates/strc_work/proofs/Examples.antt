@@ -5,8 +5,8 @@ use Rattle.std.specs.Int.{int_wrap}
 use Rattle.strc_syntax.specs.Tree as tree
 use Rattle.strc_semantics.specs.Filters.{Filter}
 use Rattle.strc_check.specs.declared.error.LowerError.{LowerError}
-use Rattle.strc_check.specs.declared.types.ValueType.{ValueType}
-use Rattle.strc_check.specs.Typing.{same_type}
+use Rattle.strc_semantics.specs.declared.types.ValueType.{ValueType}
+use Rattle.strc_semantics.specs.Typing.{same_type}
 use Rattle.strc_check.specs.Resolution.{Context, Typed, expr_resolved, stmt_resolved}
 use Rattle.strc_check.specs.Resolution.{filter_resolved, number_resolved, rate_context}
 use Rattle.strc_check.specs.Resolution.{init_context}
@@ -18,7 +18,8 @@ use Rattle.strc_work.specs.Examples.{ExpressionRows, NumberRows, StatementRows, 
 use Rattle.strc_work.specs.Examples.{AreAllWellFormed, AreIllFormed}
 use Rattle.strc_work.specs.Examples.{AreAllWellTyped, AreIllTyped}
 use Rattle.strc_work.specs.Examples.{flowing, closed, typed, untyped, well_formed, ill_formed, x}
-use Rattle.strc_work.specs.Examples.{well_typed, ill_typed, doubled, by_zero, lazy, item_readers}
+use Rattle.strc_work.specs.Examples.{well_typed, ill_typed, helped, unhelped, doubled, by_zero}
+use Rattle.strc_work.specs.Examples.{lazy, item_readers}
 use Rattle.strc_work.specs.Examples.{constant_reads, variable_reads, pushes, writes}
 use Rattle.strc_work.proofs.Accepting.{same_type_true}
 use Rattle.strc_work.proofs.TypesOfExpressions.{expr_gives, expr_accepts}
@@ -183,4 +184,6 @@ pub filter_rows : FilterRows
 filter_rows = record {
   well_typed_rows = are_well_typed well_typed refl;
   ill_typed_rows = are_ill_typed ill_typed refl;
+  helped_rows = are_well_typed helped refl;
+  unhelped_rows = are_ill_typed unhelped refl;
 }

@@ -17,7 +17,7 @@ use Rattle.strc_code.specs.declared.inst.Inst.TheVariants as act
 use Rattle.strc_semantics.specs.Arithmetic.{wrapped, truth, is_true, unary_value, binary_value}
 use Rattle.strc_semantics.specs.Scoping.{Scope, total, slot_of}
 use Rattle.strc_semantics.specs.Closed.{IsNamed, IsClosed}
-use Rattle.strc_semantics.specs.Firing.{Port, Store, Traffic, value_in, joined, value_of}
+use Rattle.strc_semantics.specs.Firing.{Port, Setting, Store, Traffic, value_in, joined, value_of}
 use Rattle.strc_semantics.specs.Firing.{popped_from, peeked_from, assigned, with_cell}
 use Rattle.strc_code.specs.Nodes.{Machine, Nodes, End, Choice, before, slot_value}
 use Rattle.strc_code.specs.Nodes.{slot_written, inst_done, chosen_by, nodes_done, nodes_room}
@@ -29,11 +29,13 @@ use Rattle.strc_work.proofs.Variables.{scope_of-with_cell, same_slots}
 use Rattle.strc_work.proofs.Related.{Related, then_related, weaker_related, chosen_related}
 use Rattle.strc_work.proofs.Related.{nodes_done-before, then_end, then_last}
 use Rattle.strc_code.proofs.Spelled.{nodes_room-before}
+use Rattle.strc_work.proofs.Standing.{Stands}
 use Rattle.strc_work.proofs.Expressions.{Arrives, IsInSlot, Ready, machine_at, Runs, Strict}
 use Rattle.strc_work.proofs.Expressions.{by_operator, named_below, named_value, total-variables}
 use Rattle.strc_work.proofs.Expressions.{variable_runs, Keeps, keeps, aliased_slot, operand_runs}
-use Rattle.strc_work.proofs.Expressions.{arrived_in_slot, expr_room}
+use Rattle.strc_work.proofs.Expressions.{machine_is, comes_to_free, in_slot_ready}
 use Rattle.strc_work.proofs.Elements.{element_runs, step_element_runs}
+use Rattle.strc_work.proofs.CallRuns.{RunsArguments, no_argument_runs, argument_runs, call_runs}
 
 -- a value that needs no other step
 pub arrives_at_once : (names : Scope) (into free : ℕ) (store : Store) (slots : List ℤ) (value : ℤ)
@@ -48,13 +50,13 @@ arrives_at_once names into free store slots value ready = record {
   size = refl;
 }
 
-pop_runs : (port : Port) (names : Scope) (into free : ℕ) (store : Store) (slots : List ℤ)
+pop_runs : (setting : Setting) (names : Scope) (into free : ℕ) (store : Store) (slots : List ℤ)
     (r : Result (ℤ × Traffic) Cause) → Ready names free store slots
     → Related (Arrives names into free slots)
     (result_and_then r (λ taken. Ok (taken.0, record store { traffic = taken.1 })))
     (result_and_then (result_and_then r (λ taken. Ok
-    (record { slots = set slots into taken.0; traffic = taken.1 }))) (nodes_done port End))
-pop_runs port names into free store slots (Ok taken) ready = record {
+    (record { slots = set slots into taken.0; traffic = taken.1 }))) (nodes_done setting End))
+pop_runs setting names into free store slots (Ok taken) ready = record {
   slots = slots;
   written = refl;
   names_are = ready.names_are;
@@ -62,7 +64,7 @@ pop_runs port names into free store slots (Ok taken) ready = record {
   kept = λ k low high. refl;
   size = refl;
 }
-pop_runs port names into free store slots (Err cause) ready = refl
+pop_runs setting names into free store slots (Err cause) ready = refl
 
 unary_step_done : (port : Port) (operator : UnaryOperator) (into from : ℕ) (m : Machine)
     → inst_done port (unary_step operator into from) m ≡ unary_done operator into from m
@@ -131,21 +133,17 @@ binary_arrives names into free before store after (Ok value) traffic names_are h
 binary_arrives names into free before store after (Err cause) traffic names_are holds kept size =
     refl
 
--- a machine whose traffic is a store's
-pub machine_is : (m : Machine) (store : Store) → m.traffic ≡ store.traffic
-    → m ≡ machine_at m.slots store
-machine_is m store e = ap (λ t. record { slots = m.slots; traffic = t }) e
-
 -- the left operand's value is still there after the right operand's code
-pub left_stays : (port : Port) (names : Scope) (left right : tree.Expr) (free : ℕ) (store : Store)
+pub left_stays : (setting : Setting) (names : Scope) (left right : tree.Expr) (free : ℕ)
+    (store : Store)
     (slots : List ℤ) (first second : ℤ × Store) (m1 m2 : Machine) → IsClosed names left
-    → Ready names free store slots → value_of port right first.1 ≡ Ok second
+    → Ready names free store slots → value_of setting right first.1 ≡ Ok second
     → IsInSlot names (operand_slot names (writes_no_variable right) left free) free slots first m1
     → Holds second.1.variables m2.slots → ((k : ℕ) → total names ≤ k → k < free + 1
     → at m2.slots k ≡ at m1.slots k) → at m2.slots
     (operand_slot names (writes_no_variable right) left free) ≡ first.0
-left_stays port names left right free store slots first second m1 m2 closed ready is in_slot holds
-    kept =
+left_stays setting names left right free store slots first second m1 m2 closed ready is in_slot
+    holds kept =
     by_place (alias_slot names (writes_no_variable right) left)
     (λ slot at_slot. aliased_slot names (writes_no_variable right) left slot at_slot)
     in_slot.value
@@ -158,19 +156,20 @@ left_stays port names left right free store slots first second m1 m2 closed read
         kept free above (omega arith) ∙ value
     by_place (Some slot) place value =
         let p = place slot refl in
-        let below = (variable_runs port left names free slot store slots p.1 closed ready).1 in
+        let below = (variable_runs setting left names free slot store slots p.1 closed ready).1 in
         let same : second.1.variables ≡ first.1.variables =
-        subst (Keeps first.1.variables) is (keeps port right p.0 first.1) in
+        subst (Keeps first.1.variables) is (keeps setting right p.0 first.1) in
         let few : total (scope_of first.1.variables) ≡ total names = ap total in_slot.names_are in
         let lt : slot < total (scope_of first.1.variables) = omega arith in
         same_slots first.1.variables m2.slots m1.slots slot
         (subst (λ v. Holds v m2.slots) same holds) in_slot.holds lt ∙ value
 
 -- an operator between operands that are both evaluated
-strict_runs : (port : Port) (operator : BinaryOperator) → Strict operator → (left right : tree.Expr)
-    → Runs port left → Runs port right → Runs port (tree.Binary operator left right)
-strict_runs port operator strict left right run_left run_right names into free store slots closed
-    ready room =
+strict_runs : (setting : Setting) (operator : BinaryOperator) → Strict operator
+    → (left right : tree.Expr)
+    → Runs setting left → Runs setting right → Runs setting (tree.Binary operator left right)
+strict_runs setting operator strict left right run_left run_right names into free store slots closed
+    stands ready room =
     let may_alias = writes_no_variable right in
     let a = operand_nodes names may_alias left free in
     let b = operand_nodes names true right (free + 1) in
@@ -196,18 +195,18 @@ strict_runs port operator strict left right run_left run_right names into free s
     λ value second. result_and_then (binary_value operator value second.0)
     (λ v. Ok (v, second.1)) in
     let meant_right : ℤ × Store → Result (ℤ × Store) Cause =
-    λ first. joined operator first (value_of port right) in
+    λ first. joined operator first (value_of setting right) in
     let goal_is : Result (ℤ × Store) Cause → Result Machine Cause → Type 0 =
     Related (Arrives names into free slots) in
-    subst (λ n. goal_is (result_and_then (value_of port left store) meant_right)
-    (nodes_done port n (machine_at slots store))) (sym code_is)
-    (subst (goal_is (result_and_then (value_of port left store) meant_right))
-    (sym (nodes_done-before port a (before b (one last)) (machine_at slots store)))
+    subst (λ n. goal_is (result_and_then (value_of setting left store) meant_right)
+    (nodes_done setting n (machine_at slots store))) (sym code_is)
+    (subst (goal_is (result_and_then (value_of setting left store) meant_right))
+    (sym (nodes_done-before setting a (before b (one last)) (machine_at slots store)))
     (then_related (IsInSlot names at_left free slots) (Arrives names into free slots)
-    (value_of port left store) (nodes_done port a (machine_at slots store)) meant_right
-    (nodes_done port (before b (one last)))
-    (operand_runs port left run_left names may_alias free store slots closed.0 ready room_a)
-    (λ first m1 is_first in_slot1.
+    (value_of setting left store) (nodes_done setting a (machine_at slots store)) meant_right
+    (nodes_done setting (before b (one last)))
+    (operand_runs setting left run_left names may_alias free store slots closed.0 stands ready
+    room_a) (λ first m1 is_first in_slot1.
     let size1 = in_slot1.size in
     let roomy = ready.roomy in
     let ready1 : Ready names (free + 1) first.1 m1.slots =
@@ -219,25 +218,25 @@ strict_runs port operator strict left right run_left run_right names into free s
       roomy = omega arith;
     } in
     let room_b1 : nodes_room b ≤ length m1.slots = omega arith in
-    let steps_are : nodes_done port (before b (one last)) m1
-    ≡ result_and_then (nodes_done port b (machine_at m1.slots first.1)) (inst_done port last)
-    = then_last port b last m1 ∙ ap
-    (λ m. result_and_then (nodes_done port b m) (inst_done port last))
+    let steps_are : nodes_done setting (before b (one last)) m1
+    ≡ result_and_then (nodes_done setting b (machine_at m1.slots first.1))
+    (inst_done setting.port last) = then_last setting b last m1 ∙ ap
+    (λ m. result_and_then (nodes_done setting b m) (inst_done setting.port last))
     (machine_is m1 first.1 in_slot1.traffic) in
-    subst (λ r. goal_is r (nodes_done port (before b (one last)) m1))
-    (sym (strict.value first (value_of port right)))
-    (subst (goal_is (result_and_then (value_of port right first.1) (meant_last first.0)))
+    subst (λ r. goal_is r (nodes_done setting (before b (one last)) m1))
+    (sym (strict.value first (value_of setting right)))
+    (subst (goal_is (result_and_then (value_of setting right first.1) (meant_last first.0)))
     (sym steps_are)
     (then_related (IsInSlot names at_right (free + 1) m1.slots) (Arrives names into free slots)
-    (value_of port right first.1) (nodes_done port b (machine_at m1.slots first.1))
-    (meant_last first.0) (inst_done port last)
-    (operand_runs port right run_right names true
-    (free + 1) first.1 m1.slots closed.1 ready1 room_b1) (λ second m2 is_second in_slot2.
-    let value1 = left_stays port names left right free store slots first second m1 m2 closed.0 ready
-    is_second in_slot1 in_slot2.holds in_slot2.kept in
-    let done_is : inst_done port last m2 ≡ result_and_then (binary_value operator first.0 second.0)
-    (λ value. Ok (slot_written m2 into value)) =
-    binary_step_done port operator into at_left at_right m2
+    (value_of setting right first.1) (nodes_done setting b (machine_at m1.slots first.1))
+    (meant_last first.0) (inst_done setting.port last)
+    (operand_runs setting right run_right names true
+    (free + 1) first.1 m1.slots closed.1 stands ready1 room_b1) (λ second m2 is_second in_slot2.
+    let value1 = left_stays setting names left right free store slots first second m1 m2 closed.0
+    ready is_second in_slot1 in_slot2.holds in_slot2.kept in
+    let done_is : inst_done setting.port last m2 ≡ result_and_then
+    (binary_value operator first.0 second.0) (λ value. Ok (slot_written m2 into value)) =
+    binary_step_done setting.port operator into at_left at_right m2
     ∙ ap (λ v. result_and_then (binary_value operator v (slot_value m2 at_right))
     (λ value. Ok (slot_written m2 into value))) value1
     ∙ ap (λ v. result_and_then (binary_value operator first.0 v)
@@ -249,9 +248,10 @@ strict_runs port operator strict left right run_left run_right names into free s
     (in_slot2.size ∙ in_slot1.size))))))))
 
 -- an operator before its operand
-unary_runs : (port : Port) (operator : UnaryOperator) (operand : tree.Expr) → Runs port operand
-    → Runs port (tree.Unary operator operand)
-unary_runs port operator operand run names into free store slots closed ready room =
+unary_runs : (setting : Setting) (operator : UnaryOperator) (operand : tree.Expr) → Runs setting
+    operand
+    → Runs setting (tree.Unary operator operand)
+unary_runs setting operator operand run names into free store slots closed stands ready room =
     let a = operand_nodes names true operand free in
     let from = operand_slot names true operand free in
     let last = unary_step operator into from in
@@ -260,43 +260,44 @@ unary_runs port operator operand run names into free store slots closed ready ro
     λ right. Ok (unary_value operator right.0, right.1) in
     let goal_is : Result (ℤ × Store) Cause → Result Machine Cause → Type 0 =
     Related (Arrives names into free slots) in
-    subst (goal_is (result_and_then (value_of port operand store) meant_last))
-    (sym (then_last port a last (machine_at slots store)))
+    subst (goal_is (result_and_then (value_of setting operand store) meant_last))
+    (sym (then_last setting a last (machine_at slots store)))
     (then_related (IsInSlot names from free slots) (Arrives names into free slots)
-    (value_of port operand store) (nodes_done port a (machine_at slots store)) meant_last
-    (inst_done port last) (operand_runs port operand run names true free store slots closed ready
-    room_a) (λ given m is in_slot.
-    subst (goal_is (meant_last given)) (sym (unary_step_done port operator into from m))
+    (value_of setting operand store) (nodes_done setting a (machine_at slots store)) meant_last
+    (inst_done setting.port last) (operand_runs setting operand run names true free store slots
+    closed stands ready room_a) (λ given m is in_slot.
+    subst (goal_is (meant_last given)) (sym (unary_step_done setting.port operator into from m))
     (unary_arrives names operator into from free slots given m in_slot)))
 
 -- an item of the window that is looked at
-peek_runs : (port : Port) (index : tree.Expr) → Runs port index → Runs port (tree.Peek index)
-peek_runs port index run names into free store slots closed ready room =
+peek_runs : (setting : Setting) (index : tree.Expr) → Runs setting index → Runs setting
+    (tree.Peek index)
+peek_runs setting index run names into free store slots closed stands ready room =
     let a = operand_nodes names true index free in
     let from = operand_slot names true index free in
     let last = act.Peek into from in
     let room_a : nodes_room a ≤ length slots = omega (arith, nodes_room-before a (one last)) in
     let meant_last : ℤ × Store → Result (ℤ × Store) Cause =
-    λ place. result_and_then (peeked_from port place.0 place.1.traffic)
+    λ place. result_and_then (peeked_from setting.port place.0 place.1.traffic)
     (λ item. Ok (item, place.1)) in
     let goal_is : Result (ℤ × Store) Cause → Result Machine Cause → Type 0 =
     Related (Arrives names into free slots) in
-    subst (goal_is (result_and_then (value_of port index store) meant_last))
-    (sym (then_last port a last (machine_at slots store)))
+    subst (goal_is (result_and_then (value_of setting index store) meant_last))
+    (sym (then_last setting a last (machine_at slots store)))
     (then_related (IsInSlot names from free slots) (Arrives names into free slots)
-    (value_of port index store) (nodes_done port a (machine_at slots store)) meant_last
-    (inst_done port last) (operand_runs port index run names true free store slots closed ready
-    room_a) (λ given m is in_slot.
-    let done_is : inst_done port last m ≡ result_and_then (peeked_from port given.0 given.1.traffic)
-    (λ item. Ok (slot_written m into item)) =
-    ap (λ v. result_and_then (peeked_from port v m.traffic) (λ item. Ok (slot_written m into item)))
-    in_slot.value
-    ∙ ap (λ t. result_and_then (peeked_from port given.0 t) (λ item. Ok (slot_written m into item)))
-    in_slot.traffic in
+    (value_of setting index store) (nodes_done setting a (machine_at slots store)) meant_last
+    (inst_done setting.port last) (operand_runs setting index run names true free store slots closed
+    stands ready room_a) (λ given m is in_slot.
+    let done_is : inst_done setting.port last m ≡ result_and_then
+    (peeked_from setting.port given.0 given.1.traffic) (λ item. Ok (slot_written m into item)) =
+    ap (λ v. result_and_then (peeked_from setting.port v m.traffic)
+    (λ item. Ok (slot_written m into item))) in_slot.value
+    ∙ ap (λ t. result_and_then (peeked_from setting.port given.0 t)
+    (λ item. Ok (slot_written m into item))) in_slot.traffic in
     subst (goal_is (meant_last given)) (sym done_is)
     (binary_arrives names into free slots given.1 m
-    (peeked_from port given.0 given.1.traffic) in_slot.traffic in_slot.names_are in_slot.holds
-    in_slot.kept in_slot.size)))
+    (peeked_from setting.port given.0 given.1.traffic) in_slot.traffic in_slot.names_are
+    in_slot.holds in_slot.kept in_slot.size)))
 
 -- a step of a variable, whose new value is the step's own
 first_runs : (port : Port) (names : Scope) (name : List ℕ) (amount : ℤ) (into free : ℕ)
@@ -387,18 +388,19 @@ after_runs port names name amount into free store slots named ready room =
       size = length-set waiting slot new ∙ size1;
     }
 
-step_runs : (port : Port) (operator : StepOperator) (name : List ℕ)
-    → Runs port (tree.Step operator name)
-step_runs port step.IncrementFirst name names into free store slots closed ready room =
-    first_runs port names name (pos 1) into free store slots closed ready ready.roomy
-step_runs port step.DecrementFirst name names into free store slots closed ready room =
-    first_runs port names name (neg_ℤ (pos 1)) into free store slots closed ready ready.roomy
-step_runs port step.IncrementAfter name names into free store slots closed ready room =
+step_runs : (setting : Setting) (operator : StepOperator) (name : List ℕ)
+    → Runs setting (tree.Step operator name)
+step_runs setting step.IncrementFirst name names into free store slots closed stands ready room =
+    first_runs setting.port names name (pos 1) into free store slots closed ready ready.roomy
+step_runs setting step.DecrementFirst name names into free store slots closed stands ready room =
+    first_runs setting.port names name (neg_ℤ (pos 1)) into free store slots closed ready
+    ready.roomy
+step_runs setting step.IncrementAfter name names into free store slots closed stands ready room =
     let within : free < length slots = omega arith in
-    after_runs port names name (pos 1) into free store slots closed ready within
-step_runs port step.DecrementAfter name names into free store slots closed ready room =
+    after_runs setting.port names name (pos 1) into free store slots closed ready within
+step_runs setting step.DecrementAfter name names into free store slots closed stands ready room =
     let within : free < length slots = omega arith in
-    after_runs port names name (neg_ℤ (pos 1)) into free store slots closed ready within
+    after_runs setting.port names name (neg_ℤ (pos 1)) into free store slots closed ready within
 
 -- ---- choices
 
@@ -443,164 +445,133 @@ arrives_further names into free before between given m kept size arrives = recor
   size = arrives.size ∙ size;
 }
 
--- the slots are ready for more after a value has come to its slot
-in_slot_ready : (names : Scope) (slot free : ℕ) (before : List ℤ) (given : ℤ × Store) (m : Machine)
-    → total names ≤ free → total names ≤ length before → IsInSlot names slot free before given m
-    → Ready names free given.1 m.slots
-in_slot_ready names slot free before given m above roomy in_slot =
-    let size = in_slot.size in
-    record {
-      names_are = in_slot.names_are;
-      holds = in_slot.holds;
-      above = above;
-      roomy =
-          omega arith;
-    }
-
 -- an expression's code, from where other code has led
-runs_from : (port : Port) (e : tree.Expr) → Runs port e
+runs_from : (setting : Setting) (e : tree.Expr) → Runs setting e
     → (names : Scope) (slot into free : ℕ) (before : List ℤ) (given : ℤ × Store) (m : Machine)
-    → IsClosed names e → total names ≤ free → total names ≤ length before
+    → IsClosed names e → Stands setting names → total names ≤ free → total names ≤ length before
     → nodes_room (expr_nodes names e into free) ≤ length before
     → IsInSlot names slot free before given m
-    → Related (Arrives names into free before) (value_of port e given.1)
-    (nodes_done port (expr_nodes names e into free) m)
-runs_from port e run names slot into free before given m closed above roomy room in_slot =
+    → Related (Arrives names into free before) (value_of setting e given.1)
+    (nodes_done setting (expr_nodes names e into free) m)
+runs_from setting e run names slot into free before given m closed stands above roomy room in_slot =
     let size = in_slot.size in
     let fits : nodes_room (expr_nodes names e into free) ≤ length m.slots = omega arith in
-    subst (λ n. Related (Arrives names into free before) (value_of port e given.1)
-    (nodes_done port (expr_nodes names e into free) n))
+    subst (λ n. Related (Arrives names into free before) (value_of setting e given.1)
+    (nodes_done setting (expr_nodes names e into free) n))
     (sym (machine_is m given.1 in_slot.traffic))
     (weaker_related (Arrives names into free m.slots) (Arrives names into free before)
-    (value_of port e given.1) (nodes_done port (expr_nodes names e into free)
+    (value_of setting e given.1) (nodes_done setting (expr_nodes names e into free)
     (machine_at m.slots given.1))
-    (run names into free given.1 m.slots closed
+    (run names into free given.1 m.slots closed stands
     (in_slot_ready names slot free before given m above roomy in_slot) fits)
     (λ result after arrives. arrives_further names into free before m.slots result after
     in_slot.kept in_slot.size arrives))
 
--- an expression's code puts its value into a free slot
-comes_to_free : (port : Port) (e : tree.Expr) → Runs port e
-    → (names : Scope) (free : ℕ) (store : Store) (slots : List ℤ) → IsClosed names e
-    → Ready names free store slots → nodes_room (expr_nodes names e free (free + 1)) ≤ length slots
-    → Related (IsInSlot names free free slots) (value_of port e store)
-    (nodes_done port (expr_nodes names e free (free + 1)) (machine_at slots store))
-comes_to_free port e run names free store slots closed ready room =
-    let above = ready.above in
-    let within : free < length slots = omega (arith, expr_room names e free (free + 1) closed) in
-    let ready' : Ready names (free + 1) store slots =
-    record {
-      names_are = ready.names_are;
-      holds = ready.holds;
-      above = omega arith;
-      roomy =
-          ready.roomy;
-    } in
-    weaker_related (Arrives names free (free + 1) slots) (IsInSlot names free free slots)
-    (value_of port e store) (nodes_done port (expr_nodes names e free (free + 1))
-    (machine_at slots store)) (run names free (free + 1) store slots closed ready' room)
-    (λ given after arrives. arrived_in_slot names free slots given after above within arrives)
-
--- the same, from where the left side's code has led
-right_comes : (port : Port) (e : tree.Expr) → Runs port e
+-- a value that comes to a free slot, from where the left side's code has led
+right_comes : (setting : Setting) (e : tree.Expr) → Runs setting e
     → (names : Scope) (free : ℕ) (before : List ℤ) (given : ℤ × Store) (m : Machine)
-    → IsClosed names e → total names ≤ free → total names ≤ length before
+    → IsClosed names e → Stands setting names → total names ≤ free → total names ≤ length before
     → nodes_room (expr_nodes names e free (free + 1)) ≤ length before
     → IsInSlot names free free before given m
-    → Related (IsInSlot names free free before) (value_of port e given.1)
-    (nodes_done port (expr_nodes names e free (free + 1)) m)
-right_comes port e run names free before given m closed above roomy room in_slot =
+    → Related (IsInSlot names free free before) (value_of setting e given.1)
+    (nodes_done setting (expr_nodes names e free (free + 1)) m)
+right_comes setting e run names free before given m closed stands above roomy room in_slot =
     let size = in_slot.size in
     let fits : nodes_room (expr_nodes names e free (free + 1)) ≤ length m.slots = omega arith in
-    subst (λ n. Related (IsInSlot names free free before) (value_of port e given.1)
-    (nodes_done port (expr_nodes names e free (free + 1)) n))
+    subst (λ n. Related (IsInSlot names free free before) (value_of setting e given.1)
+    (nodes_done setting (expr_nodes names e free (free + 1)) n))
     (sym (machine_is m given.1 in_slot.traffic))
     (weaker_related (IsInSlot names free free m.slots) (IsInSlot names free free before)
-    (value_of port e given.1) (nodes_done port (expr_nodes names e free (free + 1))
+    (value_of setting e given.1) (nodes_done setting (expr_nodes names e free (free + 1))
     (machine_at m.slots given.1))
-    (comes_to_free port e run names free given.1 m.slots closed
+    (comes_to_free setting e run names free given.1 m.slots closed stands
     (in_slot_ready names free free before given m above roomy in_slot) fits)
     (λ result after there. in_slot_further names free free before m.slots result after in_slot.kept
     in_slot.size there))
 
 -- the last step of a logical operator
-logical_last : (port : Port) (names : Scope) (into free : ℕ) (slots : List ℤ)
+logical_last : (setting : Setting) (names : Scope) (into free : ℕ) (slots : List ℤ)
     (x : Result (ℤ × Store) Cause) (y : Result Machine Cause)
     → Related (IsInSlot names free free slots) x y
     → Related (Arrives names into free slots) x
-    (result_and_then y (nodes_done port (one (act.Copy into free))))
-logical_last port names into free slots (Ok given) (Ok m) h =
+    (result_and_then y (nodes_done setting (one (act.Copy into free))))
+logical_last setting names into free slots (Ok given) (Ok m) h =
     copied_arrives names into free free slots given m h
-logical_last port names into free slots (Ok given) (Err d) h = h
-logical_last port names into free slots (Err c) (Ok m) h = h
-logical_last port names into free slots (Err c) (Err d) h = h
+logical_last setting names into free slots (Ok given) (Err d) h = h
+logical_last setting names into free slots (Err c) (Ok m) h = h
+logical_last setting names into free slots (Err c) (Err d) h = h
 
 -- a logical operator: the left side comes to a free slot, and where it is needed the right side
-logical_runs : (port : Port) (left : tree.Expr) → Runs port left
+logical_runs : (setting : Setting) (left : tree.Expr) → Runs setting left
     → (meant : ℤ × Store → Result (ℤ × Store) Cause) (chosen other : Nodes) (names : Scope)
     (into free : ℕ) (store : Store) (slots : List ℤ) → IsClosed names left
-    → Ready names free store slots → nodes_room
+    → Stands setting names → Ready names free store slots → nodes_room
     (before (expr_nodes names left free (free + 1))
     (Choice free chosen other (one (act.Copy into free)))) ≤ length slots
     → ((first : ℤ × Store) (m : Machine) → IsInSlot names free free slots first m
     → Related (IsInSlot names free free slots) (meant first)
-    (chosen_by (is_true (slot_value m free)) (nodes_done port chosen) (nodes_done port other) m))
-    → Related (Arrives names into free slots) (result_and_then (value_of port left store) meant)
-    (nodes_done port (before (expr_nodes names left free (free + 1))
+    (chosen_by (is_true (slot_value m free)) (nodes_done setting chosen)
+    (nodes_done setting other) m))
+    → Related (Arrives names into free slots) (result_and_then (value_of setting left store) meant)
+    (nodes_done setting (before (expr_nodes names left free (free + 1))
     (Choice free chosen other (one (act.Copy into free)))) (machine_at slots store))
-logical_runs port left run_left meant chosen other names into free store slots closed ready room go
-    =
+logical_runs setting left run_left meant chosen other names into free store slots closed stands
+    ready room go =
     let a = expr_nodes names left free (free + 1) in
     let b = Choice free chosen other (one (act.Copy into free)) in
     let room_a : nodes_room a ≤ length slots = omega (arith, nodes_room-before a b) in
     subst (Related (Arrives names into free slots)
-    (result_and_then (value_of port left store) meant))
-    (sym (nodes_done-before port a b (machine_at slots store)))
+    (result_and_then (value_of setting left store) meant))
+    (sym (nodes_done-before setting a b (machine_at slots store)))
     (then_related (IsInSlot names free free slots) (Arrives names into free slots)
-    (value_of port left store) (nodes_done port a (machine_at slots store)) meant
-    (nodes_done port b) (comes_to_free port left run_left names free store slots closed ready
-    room_a) (λ first m is in_slot.
-    logical_last port names into free slots (meant first)
-    (chosen_by (is_true (slot_value m free)) (nodes_done port chosen) (nodes_done port other) m)
-    (go first m in_slot)))
+    (value_of setting left store) (nodes_done setting a (machine_at slots store)) meant
+    (nodes_done setting b) (comes_to_free setting left run_left names free store slots closed
+    stands ready room_a) (λ first m is in_slot.
+    logical_last setting names into free slots (meant first)
+    (chosen_by (is_true (slot_value m free)) (nodes_done setting chosen)
+    (nodes_done setting other) m) (go first m in_slot)))
 
 -- an operator between its operands
-binary_runs : (port : Port) (operator : BinaryOperator) (left right : tree.Expr) → Runs port left
-    → Runs port right → Runs port (tree.Binary operator left right)
-binary_runs port operator left right run_left run_right =
-    by_operator (λ o. Runs port (tree.Binary o left right))
-    (λ names into free store slots closed ready room.
+binary_runs : (setting : Setting) (operator : BinaryOperator) (left right : tree.Expr)
+    → Runs setting left
+    → Runs setting right → Runs setting (tree.Binary operator left right)
+binary_runs setting operator left right run_left run_right =
+    by_operator (λ o. Runs setting (tree.Binary o left right))
+    (λ names into free store slots closed stands ready room.
     let a = expr_nodes names left free (free + 1) in
     let b = expr_nodes names right free (free + 1) in
     let room_b : nodes_room b ≤ length slots =
     omega (arith, nodes_room-before a (Choice free End b (one (act.Copy into free)))) in
-    logical_runs port left run_left (λ first. joined binary.LogicalOr first (value_of port right))
-    End b names into free store slots closed.0 ready room (λ first m in_slot.
+    logical_runs setting left run_left
+    (λ first. joined binary.LogicalOr first (value_of setting right))
+    End b names into free store slots closed.0 stands ready room (λ first m in_slot.
     chosen_related (IsInSlot names free free slots) (is_true first.0) (is_true (slot_value m free))
-    (Ok first) (value_of port right first.1) (nodes_done port End) (nodes_done port b) m
-    (ap is_true in_slot.value) in_slot
-    (right_comes port right run_right names free slots first m closed.1 ready.above ready.roomy
-    room_b in_slot)))
-    (λ names into free store slots closed ready room.
+    (Ok first) (value_of setting right first.1) (nodes_done setting End)
+    (nodes_done setting b) m (ap is_true in_slot.value) in_slot
+    (right_comes setting right run_right names free slots first m closed.1 stands ready.above
+    ready.roomy room_b in_slot)))
+    (λ names into free store slots closed stands ready room.
     let a = expr_nodes names left free (free + 1) in
     let b = expr_nodes names right free (free + 1) in
     let room_b : nodes_room b ≤ length slots =
     omega (arith, nodes_room-before a (Choice free b End (one (act.Copy into free)))) in
-    logical_runs port left run_left (λ first. joined binary.LogicalAnd first (value_of port right))
-    b End names into free store slots closed.0 ready room (λ first m in_slot.
+    logical_runs setting left run_left
+    (λ first. joined binary.LogicalAnd first (value_of setting right))
+    b End names into free store slots closed.0 stands ready room (λ first m in_slot.
     chosen_related (IsInSlot names free free slots) (is_true first.0) (is_true (slot_value m free))
-    (value_of port right first.1) (Ok first) (nodes_done port b) (nodes_done port End) m
-    (ap is_true in_slot.value)
-    (right_comes port right run_right names free slots first m closed.1 ready.above ready.roomy
-    room_b in_slot) in_slot))
-    (λ o strict. strict_runs port o strict left right run_left run_right)
+    (value_of setting right first.1) (Ok first) (nodes_done setting b)
+    (nodes_done setting End) m (ap is_true in_slot.value)
+    (right_comes setting right run_right names free slots first m closed.1 stands ready.above
+    ready.roomy room_b in_slot) in_slot))
+    (λ o strict. strict_runs setting o strict left right run_left run_right)
     operator
 
 -- one of two expressions
-conditional_runs : (port : Port) (condition chosen other : tree.Expr) → Runs port condition
-    → Runs port chosen → Runs port other → Runs port (tree.Conditional condition chosen other)
-conditional_runs port condition chosen other run run_chosen run_other names into free store slots
-    closed ready room =
+conditional_runs : (setting : Setting) (condition chosen other : tree.Expr) → Runs setting condition
+    → Runs setting chosen → Runs setting other → Runs setting
+    (tree.Conditional condition chosen other)
+conditional_runs setting condition chosen other run run_chosen run_other names into free store slots
+    closed stands ready room =
     let a = operand_nodes names true condition free in
     let slot = operand_slot names true condition free in
     let b = expr_nodes names chosen into free in
@@ -610,61 +581,76 @@ conditional_runs port condition chosen other run run_chosen run_other names into
     let room_b : nodes_room b ≤ length slots = omega (arith, nodes_room-before a choice) in
     let room_c : nodes_room c ≤ length slots = omega (arith, nodes_room-before a choice) in
     let meant : ℤ × Store → Result (ℤ × Store) Cause =
-    λ test. cond (is_true test.0) (value_of port chosen test.1)
-    (value_of port other test.1) in
+    λ test. cond (is_true test.0) (value_of setting chosen test.1)
+    (value_of setting other test.1) in
     subst (Related (Arrives names into free slots)
-    (result_and_then (value_of port condition store) meant))
-    (sym (nodes_done-before port a choice (machine_at slots store)))
+    (result_and_then (value_of setting condition store) meant))
+    (sym (nodes_done-before setting a choice (machine_at slots store)))
     (then_related (IsInSlot names slot free slots) (Arrives names into free slots)
-    (value_of port condition store) (nodes_done port a (machine_at slots store)) meant
-    (nodes_done port choice) (operand_runs port condition run names true free store slots closed.0
-    ready room_a) (λ test m is in_slot.
+    (value_of setting condition store) (nodes_done setting a (machine_at slots store)) meant
+    (nodes_done setting choice)
+    (operand_runs setting condition run names true free store slots closed.0
+    stands ready room_a) (λ test m is in_slot.
     subst (Related (Arrives names into free slots) (meant test))
-    (sym (then_end port (chosen_by (is_true (slot_value m slot)) (nodes_done port b)
-    (nodes_done port c) m)))
+    (sym (then_end setting (chosen_by (is_true (slot_value m slot)) (nodes_done setting b)
+    (nodes_done setting c) m)))
     (chosen_related (Arrives names into free slots) (is_true test.0) (is_true (slot_value m slot))
-    (value_of port chosen test.1) (value_of port other test.1) (nodes_done port b)
-    (nodes_done port c) m (ap is_true in_slot.value)
-    (runs_from port chosen run_chosen names slot into free slots test m closed.1 ready.above
-    ready.roomy room_b in_slot)
-    (runs_from port other run_other names slot into free slots test m closed.2 ready.above
+    (value_of setting chosen test.1) (value_of setting other test.1) (nodes_done setting b)
+    (nodes_done setting c) m (ap is_true in_slot.value)
+    (runs_from setting chosen run_chosen names slot into free slots test m closed.1 stands
+    ready.above ready.roomy room_b in_slot)
+    (runs_from setting other run_other names slot into free slots test m closed.2 stands ready.above
     ready.roomy room_c in_slot))))
 
--- every expression's code does what it means
-pub expr_runs : (port : Port) (e : tree.Expr) → Runs port e
-expr_runs port (tree.Number value) names into free store slots closed ready room =
-    arrives_at_once names into free store slots value ready
-expr_runs port (tree.Truth value) names into free store slots closed ready room =
-    arrives_at_once names into free store slots (truth value) ready
-expr_runs port (tree.Element name index) names into free store slots closed ready room =
-    element_runs port name index (expr_runs port index) names into free store slots closed ready
-    room
-expr_runs port (tree.Peek index) names into free store slots closed ready room =
-    peek_runs port index (expr_runs port index) names into free store slots closed ready room
-expr_runs port (tree.Call name arguments) names into free store slots closed ready room =
-    absurd closed
-expr_runs port (tree.StepElement operator name index) names into free store slots closed ready room
-    =
-    step_element_runs port operator name index
-    (expr_runs port index) names into free store slots closed ready room
-expr_runs port (tree.Conditional condition chosen other) names into free store slots closed ready
-    room =
-    conditional_runs port condition chosen other (expr_runs port condition) (expr_runs port chosen)
-    (expr_runs port other) names into free store slots closed ready room
-expr_runs port (tree.Read name) names into free store slots closed ready room =
-    subst (λ v. Related (Arrives names into free slots) (Ok (v, store))
-    (Ok (slot_written (machine_at slots store) into (at slots (slot_of names name)))))
-    (named_value names free store slots name ready closed)
-    (arrives_at_once names into free store slots (at slots (slot_of names name)) ready)
-expr_runs port tree.Pop names into free store slots closed ready room =
-    pop_runs port names into free store slots (popped_from port store.traffic) ready
-expr_runs port (tree.Group inner) names into free store slots closed ready room =
-    expr_runs port inner names into free store slots closed ready room
-expr_runs port (tree.Unary operator operand) names into free store slots closed ready room =
-    unary_runs port operator operand (expr_runs port operand) names into free store slots closed
-    ready room
-expr_runs port (tree.Step operator name) names into free store slots closed ready room =
-    step_runs port operator name names into free store slots closed ready room
-expr_runs port (tree.Binary operator left right) names into free store slots closed ready room =
-    binary_runs port operator left right (expr_runs port left)
-    (expr_runs port right) names into free store slots closed ready room
+mutual
+  -- every expression's code does what it means
+  pub expr_runs : (setting : Setting) (e : tree.Expr) → Runs setting e
+  expr_runs setting (tree.Number value) names into free store slots closed stands ready room =
+      arrives_at_once names into free store slots value ready
+  expr_runs setting (tree.Truth value) names into free store slots closed stands ready room =
+      arrives_at_once names into free store slots (truth value) ready
+  expr_runs setting (tree.Element name index) names into free store slots closed stands ready room =
+      element_runs setting name index (expr_runs setting index) names into free store slots closed
+      stands ready room
+  expr_runs setting (tree.Peek index) names into free store slots closed stands ready room =
+      peek_runs setting index (expr_runs setting index) names into free store slots closed stands
+      ready room
+  expr_runs setting (tree.Call name arguments) names into free store slots closed stands ready
+      room =
+      call_runs setting name arguments (arguments_run setting arguments) names into free store slots
+      closed stands ready room
+  expr_runs setting (tree.StepElement operator name index) names into free store slots closed stands
+      ready room =
+      step_element_runs setting operator name index
+      (expr_runs setting index) names into free store slots closed stands ready room
+  expr_runs setting (tree.Conditional condition chosen other) names into free store slots closed
+      stands ready room =
+      conditional_runs setting condition chosen other (expr_runs setting condition)
+      (expr_runs setting chosen)
+      (expr_runs setting other) names into free store slots closed stands ready room
+  expr_runs setting (tree.Read name) names into free store slots closed stands ready room =
+      subst (λ v. Related (Arrives names into free slots) (Ok (v, store))
+      (Ok (slot_written (machine_at slots store) into (at slots (slot_of names name)))))
+      (named_value names free store slots name ready closed)
+      (arrives_at_once names into free store slots (at slots (slot_of names name)) ready)
+  expr_runs setting tree.Pop names into free store slots closed stands ready room =
+      pop_runs setting names into free store slots (popped_from setting.port store.traffic) ready
+  expr_runs setting (tree.Group inner) names into free store slots closed stands ready room =
+      expr_runs setting inner names into free store slots closed stands ready room
+  expr_runs setting (tree.Unary operator operand) names into free store slots closed stands ready
+      room =
+      unary_runs setting operator operand (expr_runs setting operand) names into free store slots
+      closed stands ready room
+  expr_runs setting (tree.Step operator name) names into free store slots closed stands ready room =
+      step_runs setting operator name names into free store slots closed stands ready room
+  expr_runs setting (tree.Binary operator left right) names into free store slots closed stands
+      ready room =
+      binary_runs setting operator left right (expr_runs setting left)
+      (expr_runs setting right) names into free store slots closed stands ready room
+
+  -- and the code of arguments, one after another
+  pub arguments_run : (setting : Setting) (arguments : tree.Arguments)
+      → RunsArguments setting arguments
+  arguments_run setting tree.NoArgument = no_argument_runs setting
+  arguments_run setting (tree.Argument first rest) =
+      argument_runs setting first rest (expr_runs setting first) (arguments_run setting rest)

@@ -18,16 +18,19 @@ use Rattle.strc_code.specs.declared.inst.Inst.TheVariants as act
 use Rattle.strc_semantics.specs.Arithmetic.{unary_value, binary_value, is_true}
 use Rattle.strc_semantics.specs.Scoping.{Scope, total, slot_of, size_of}
 use Rattle.strc_semantics.specs.Closed.{IsNamed, IsClosed}
-use Rattle.strc_semantics.specs.Firing.{Port, Variables, Store, Traffic, cells_named, cell_in}
+use Rattle.strc_semantics.specs.Firing.{Port, Setting, Variables, Store, Traffic, cells_named}
+use Rattle.strc_semantics.specs.Firing.{cell_in}
 use Rattle.strc_semantics.specs.Firing.{value_in, place_in, tested_place, place_of, joined}
 use Rattle.strc_semantics.specs.Firing.{value_of, popped_from, peeked_from}
-use Rattle.strc_code.specs.Nodes.{Machine, Nodes, End, Choice, before, nodes_done, inst_room}
-use Rattle.strc_code.specs.Nodes.{nodes_room}
+use Rattle.strc_code.specs.Nodes.{Machine, Nodes, End, Choice, Call, before, nodes_done}
+use Rattle.strc_code.specs.Nodes.{inst_room, nodes_room}
 use Rattle.strc_code.specs.Lowering.{variable_slot, writes_no_variable, alias_slot, unless_there}
 use Rattle.strc_code.specs.Lowering.{one, unary_step, binary_step, step_nodes, element_step_nodes}
-use Rattle.strc_code.specs.Lowering.{binary_nodes, expr_nodes, operand_slot, operand_nodes}
+use Rattle.strc_code.specs.Lowering.{binary_nodes, argument_count, expr_nodes, arguments_nodes}
+use Rattle.strc_code.specs.Lowering.{operand_slot, operand_nodes}
 use Rattle.strc_work.proofs.Variables.{scope_of, at, Holds, Holds-set_above, slot_of-below}
 use Rattle.strc_work.proofs.Variables.{slot_of-value, size_of-some, size_of-is}
+use Rattle.strc_work.proofs.Standing.{Stands}
 use Rattle.strc_work.proofs.Related.{Related, weaker_related}
 use Rattle.strc_code.proofs.Spelled.{nodes_room-before}
 
@@ -63,11 +66,12 @@ abbrev pub machine_at : List ℤ → Store → Machine
 machine_at slots store = record { slots = slots; traffic = store.traffic }
 
 -- an expression's code does what it means
-abbrev pub Runs : Port → tree.Expr → Type 0
-Runs port e = (names : Scope) (into free : ℕ) (store : Store) (slots : List ℤ) → IsClosed names e
-    → Ready names free store slots → nodes_room (expr_nodes names e into free) ≤ length slots
-    → Related (Arrives names into free slots) (value_of port e store)
-    (nodes_done port (expr_nodes names e into free) (machine_at slots store))
+abbrev pub Runs : Setting → tree.Expr → Type 0
+Runs setting e = (names : Scope) (into free : ℕ) (store : Store) (slots : List ℤ) → IsClosed names e
+    → Stands setting names → Ready names free store slots
+    → nodes_room (expr_nodes names e into free) ≤ length slots
+    → Related (Arrives names into free slots) (value_of setting e store)
+    (nodes_done setting (expr_nodes names e into free) (machine_at slots store))
 
 -- a named variable has a cell, and its slots are below the free ones
 pub named_slots : (names : Scope) (variables : Variables) (slots : List ℤ) (name : List ℕ)
@@ -244,35 +248,37 @@ by_operator P either both strict binary.Remainder =
     })
 
 -- a variable, in brackets or not
-pub variable_runs : (port : Port) (e : tree.Expr) (names : Scope) (free slot : ℕ) (store : Store)
-    (slots : List ℤ) → variable_slot names e ≡ Some slot → IsClosed names e
-    → Ready names free store slots → (value_of port e store ≡ Ok (at slots slot, store))
+pub variable_runs : (setting : Setting) (e : tree.Expr) (names : Scope) (free slot : ℕ)
+    (store : Store) (slots : List ℤ) → variable_slot names e ≡ Some slot → IsClosed names e
+    → Ready names free store slots → (value_of setting e store ≡ Ok (at slots slot, store))
     × (slot < total names)
-variable_runs port (tree.Number value) names free slot store slots is closed ready = absurd (cc)
-variable_runs port (tree.Read name) names free slot store slots is closed ready =
+variable_runs setting (tree.Number value) names free slot store slots is closed ready = absurd (cc)
+variable_runs setting (tree.Read name) names free slot store slots is closed ready =
     let same : slot_of names name ≡ slot = cc in (
       ap (λ v. Ok (v, store)) (sym (named_value names free store slots name ready closed)
           ∙ ap (at slots) same),
       subst (λ n. n < total names) same (named_below names free store slots name ready closed),
     )
-variable_runs port tree.Pop names free slot store slots is closed ready = absurd (cc)
-variable_runs port (tree.Truth value) names free slot store slots is closed ready = absurd (cc)
-variable_runs port (tree.Element name index) names free slot store slots is closed ready =
+variable_runs setting tree.Pop names free slot store slots is closed ready = absurd (cc)
+variable_runs setting (tree.Truth value) names free slot store slots is closed ready = absurd (cc)
+variable_runs setting (tree.Element name index) names free slot store slots is closed ready =
     absurd (cc)
-variable_runs port (tree.Peek index) names free slot store slots is closed ready = absurd (cc)
-variable_runs port (tree.Call name arguments) names free slot store slots is closed ready =
+variable_runs setting (tree.Peek index) names free slot store slots is closed ready = absurd (cc)
+variable_runs setting (tree.Call name arguments) names free slot store slots is closed ready =
     absurd (cc)
-variable_runs port (tree.StepElement operator name index) names free slot store slots is closed
+variable_runs setting (tree.StepElement operator name index) names free slot store slots is closed
     ready = absurd (cc)
-variable_runs port (tree.Conditional condition chosen other) names free slot store slots is closed
+variable_runs setting (tree.Conditional condition chosen other) names free slot store slots is
+    closed
     ready = absurd (cc)
-variable_runs port (tree.Group inner) names free slot store slots is closed ready =
-    variable_runs port inner names free slot store slots is closed ready
-variable_runs port (tree.Unary operator operand) names free slot store slots is closed ready =
+variable_runs setting (tree.Group inner) names free slot store slots is closed ready =
+    variable_runs setting inner names free slot store slots is closed ready
+variable_runs setting (tree.Unary operator operand) names free slot store slots is closed ready =
     absurd (cc)
-variable_runs port (tree.Step operator name) names free slot store slots is closed ready =
+variable_runs setting (tree.Step operator name) names free slot store slots is closed ready =
     absurd (cc)
-variable_runs port (tree.Binary operator left right) names free slot store slots is closed ready =
+variable_runs setting (tree.Binary operator left right) names free slot store slots is closed ready
+    =
     absurd (cc)
 
 -- a result that keeps the variables
@@ -324,14 +330,14 @@ joined_keeps variables operator first right h h' =
     subst (Keeps variables) (sym (strict.value first right))
     (right_keeps variables o first.0 (right first.1) h')) operator
 
-left_keeps : (port : Port) (variables : Variables) (operator : BinaryOperator) (right : tree.Expr)
-    (r : Result (ℤ × Store) Cause) → ((store : Store)
-    → Keeps store.variables (value_of port right store)) → Keeps variables r
-    → Keeps variables (result_and_then r (λ first. joined operator first (value_of port right)))
-left_keeps port variables operator right (Ok first) inside h =
-    joined_keeps variables operator first (value_of port right) h
-    (subst (λ v. Keeps v (value_of port right first.1)) h (inside first.1))
-left_keeps port variables operator right (Err cause) inside h = tt
+left_keeps : (setting : Setting) (variables : Variables) (operator : BinaryOperator)
+    (right : tree.Expr) (r : Result (ℤ × Store) Cause) → ((store : Store)
+    → Keeps store.variables (value_of setting right store)) → Keeps variables r
+    → Keeps variables (result_and_then r (λ first. joined operator first (value_of setting right)))
+left_keeps setting variables operator right (Ok first) inside h =
+    joined_keeps variables operator first (value_of setting right) h
+    (subst (λ v. Keeps v (value_of setting right first.1)) h (inside first.1))
+left_keeps setting variables operator right (Err cause) inside h = tt
 
 test_keeps : (variables : Variables) (chosen other : Store → Result (ℤ × Store) Cause)
     (r : Result (ℤ × Store) Cause) → Keeps variables r
@@ -373,34 +379,36 @@ element_keeps variables name (Ok given) h =
     (place_in (length (cells_named given.1.variables name)) given.0) h
 element_keeps variables name (Err cause) h = tt
 
-pub keeps : (port : Port) (e : tree.Expr) → writes_no_variable e ≡ true → (store : Store)
-    → Keeps store.variables (value_of port e store)
-keeps port (tree.Number value) none store = refl
-keeps port (tree.Truth value) none store = refl
-keeps port (tree.Read name) none store = refl
-keeps port (tree.Element name index) none store =
-    element_keeps store.variables name (value_of port index store) (keeps port index none store)
-keeps port (tree.Peek index) none store =
-    peek_keeps port store.variables (value_of port index store) (keeps port index none store)
-keeps port (tree.Call name arguments) none store = absurd (false≢true none)
-keeps port (tree.StepElement operator name index) none store = absurd (false≢true none)
-keeps port (tree.Conditional condition chosen other) none store =
+pub keeps : (setting : Setting) (e : tree.Expr) → writes_no_variable e ≡ true → (store : Store)
+    → Keeps store.variables (value_of setting e store)
+keeps setting (tree.Number value) none store = refl
+keeps setting (tree.Truth value) none store = refl
+keeps setting (tree.Read name) none store = refl
+keeps setting (tree.Element name index) none store =
+    element_keeps store.variables name (value_of setting index store)
+    (keeps setting index none store)
+keeps setting (tree.Peek index) none store =
+    peek_keeps setting.port store.variables (value_of setting index store)
+    (keeps setting index none store)
+keeps setting (tree.Call name arguments) none store = absurd (false≢true none)
+keeps setting (tree.StepElement operator name index) none store = absurd (false≢true none)
+keeps setting (tree.Conditional condition chosen other) none store =
     let both = both_true (writes_no_variable condition)
     (writes_no_variable chosen && writes_no_variable other) none in
     let sides = both_true (writes_no_variable chosen) (writes_no_variable other) both.1 in
-    test_keeps store.variables (value_of port chosen) (value_of port other)
-    (value_of port condition store) (keeps port condition both.0 store)
-    (keeps port chosen sides.0) (keeps port other sides.1)
-keeps port tree.Pop none store = popped_keeps store (popped_from port store.traffic)
-keeps port (tree.Group inner) none store = keeps port inner none store
-keeps port (tree.Unary operator operand) none store =
-    unary_keeps store.variables operator (value_of port operand store)
-    (keeps port operand none store)
-keeps port (tree.Step operator name) none store = absurd (false≢true none)
-keeps port (tree.Binary operator left right) none store =
+    test_keeps store.variables (value_of setting chosen) (value_of setting other)
+    (value_of setting condition store) (keeps setting condition both.0 store)
+    (keeps setting chosen sides.0) (keeps setting other sides.1)
+keeps setting tree.Pop none store = popped_keeps store (popped_from setting.port store.traffic)
+keeps setting (tree.Group inner) none store = keeps setting inner none store
+keeps setting (tree.Unary operator operand) none store =
+    unary_keeps store.variables operator (value_of setting operand store)
+    (keeps setting operand none store)
+keeps setting (tree.Step operator name) none store = absurd (false≢true none)
+keeps setting (tree.Binary operator left right) none store =
     let both = both_true (writes_no_variable left) (writes_no_variable right) none in
-    left_keeps port store.variables operator right (value_of port left store)
-    (keeps port right both.1) (keeps port left both.0 store)
+    left_keeps setting store.variables operator right (value_of setting left store)
+    (keeps setting right both.1) (keeps setting left both.0 store)
 
 -- the slot that an expression's code writes is one of those that it needs
 pub unary_room : (operator : UnaryOperator) (into from : ℕ)
@@ -474,7 +482,12 @@ expr_room names (tree.Element name index) into free closed =
           (expr_nodes names index free (free + 1))) last,
     )
 expr_room names tree.Pop into free closed = omega arith
-expr_room names (tree.Call name arguments) into free closed = absurd closed
+expr_room names (tree.Call name arguments) into free closed =
+    omega (
+      arith,
+      nodes_room-before (arguments_nodes names arguments free)
+          (Call name free (argument_count arguments) into End),
+    )
 expr_room names (tree.Peek index) into free closed =
     let slot = unwrap_or (variable_slot names index) free in
     omega (
@@ -552,24 +565,67 @@ arrived_in_slot names slot before given after above room arrives =
       size = ap length is ∙ length-set slots slot value ∙ size;
     }
 
+-- a machine whose traffic is a store's
+pub machine_is : (m : Machine) (store : Store) → m.traffic ≡ store.traffic
+    → m ≡ machine_at m.slots store
+machine_is m store e = ap (λ t. record { slots = m.slots; traffic = t }) e
+
+-- the slots are ready for more after a value has come to its slot
+pub in_slot_ready : (names : Scope) (slot free : ℕ) (before : List ℤ) (given : ℤ × Store)
+    (m : Machine)
+    → total names ≤ free → total names ≤ length before → IsInSlot names slot free before given m
+    → Ready names free given.1 m.slots
+in_slot_ready names slot free before given m above roomy in_slot =
+    let size = in_slot.size in
+    record {
+      names_are = in_slot.names_are;
+      holds = in_slot.holds;
+      above = above;
+      roomy =
+          omega arith;
+    }
+
+-- an expression's code puts its value into a free slot
+pub comes_to_free : (setting : Setting) (e : tree.Expr) → Runs setting e
+    → (names : Scope) (free : ℕ) (store : Store) (slots : List ℤ) → IsClosed names e
+    → Stands setting names → Ready names free store slots
+    → nodes_room (expr_nodes names e free (free + 1)) ≤ length slots
+    → Related (IsInSlot names free free slots) (value_of setting e store)
+    (nodes_done setting (expr_nodes names e free (free + 1)) (machine_at slots store))
+comes_to_free setting e run names free store slots closed stands ready room =
+    let above = ready.above in
+    let within : free < length slots = omega (arith, expr_room names e free (free + 1) closed) in
+    let ready' : Ready names (free + 1) store slots =
+    record {
+      names_are = ready.names_are;
+      holds = ready.holds;
+      above = omega arith;
+      roomy =
+          ready.roomy;
+    } in
+    weaker_related (Arrives names free (free + 1) slots) (IsInSlot names free free slots)
+    (value_of setting e store) (nodes_done setting (expr_nodes names e free (free + 1))
+    (machine_at slots store)) (run names free (free + 1) store slots closed stands ready' room)
+    (λ given after arrives. arrived_in_slot names free slots given after above within arrives)
+
 -- an operand's code brings its value to its slot
-pub operand_runs : (port : Port) (e : tree.Expr) → Runs port e
+pub operand_runs : (setting : Setting) (e : tree.Expr) → Runs setting e
     → (names : Scope) (may_alias : Bool) (free : ℕ) (store : Store) (slots : List ℤ)
-    → IsClosed names e → Ready names free store slots
+    → IsClosed names e → Stands setting names → Ready names free store slots
     → nodes_room (operand_nodes names may_alias e free) ≤ length slots
     → Related (IsInSlot names (operand_slot names may_alias e free) free slots)
-    (value_of port e store) (nodes_done port (operand_nodes names may_alias e free)
+    (value_of setting e store) (nodes_done setting (operand_nodes names may_alias e free)
     (machine_at slots store))
-operand_runs port e run names may_alias free store slots closed ready room =
+operand_runs setting e run names may_alias free store slots closed stands ready room =
     by_place (alias_slot names may_alias e)
-    (λ slot is. variable_runs port e names free slot store slots
+    (λ slot is. variable_runs setting e names free slot store slots
     (aliased_slot names may_alias e slot is).1 closed ready) room
   where
     by_place : (o : Option ℕ) → ((slot : ℕ) → o ≡ Some slot
-        → (value_of port e store ≡ Ok (at slots slot, store)) × (slot < total names))
+        → (value_of setting e store ≡ Ok (at slots slot, store)) × (slot < total names))
         → nodes_room (unless_there o (expr_nodes names e free (free + 1))) ≤ length slots
-        → Related (IsInSlot names (unwrap_or o free) free slots) (value_of port e store)
-        (nodes_done port (unless_there o (expr_nodes names e free (free + 1)))
+        → Related (IsInSlot names (unwrap_or o free) free slots) (value_of setting e store)
+        (nodes_done setting (unless_there o (expr_nodes names e free (free + 1)))
         (machine_at slots store))
     by_place (Some slot) in_slot fits =
         subst (λ r. Related (IsInSlot names slot free slots) r (Ok (machine_at slots store)))
@@ -584,19 +640,4 @@ operand_runs port e run names may_alias free store slots closed ready room =
           size = refl;
         })
     by_place None in_slot fits =
-        let above = ready.above in
-        let within : free < length slots =
-        omega (arith, expr_room names e free (free + 1) closed) in
-        let ready' : Ready names (free + 1) store slots =
-        record {
-          names_are = ready.names_are;
-          holds = ready.holds;
-          above =
-              omega arith;
-          roomy = ready.roomy;
-        } in
-        weaker_related (Arrives names free (free + 1) slots) (IsInSlot names free free slots)
-        (value_of port e store) (nodes_done port (expr_nodes names e free (free + 1))
-        (machine_at slots store)) (run names free (free + 1) store slots closed ready' fits)
-        (λ given after arrives. arrived_in_slot names free slots given after above within
-        arrives)
+        comes_to_free setting e run names free store slots closed stands ready fits

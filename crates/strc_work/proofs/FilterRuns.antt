@@ -1,7 +1,8 @@
 -- A filter's code starts it and fires it as its text says.
 use Rattle.std.proofs.Common.{◌≡◌, ℕ, ◌+◌, ◌-◌, ◌<◌, ◌≤◌, ℤ, pos, List, [], ◌∷◌, ◌++◌, length, take}
 use Rattle.std.proofs.Common.{drop, reverse, replicate, Option, Some, None, Result, Ok, refl, sym}
-use Rattle.std.proofs.Common.{ap, ◌∙◌, subst, arith, append_assoc}
+use Rattle.std.proofs.Common.{ap, ◌∙◌, subst, arith, append_assoc, false}
+use Rattle.std.proofs.lemmas.Bool.{false≢true}
 use Rattle.std.proofs.lemmas.List.{reverse-append, append-nil, length-take-le, length-drop}
 use Rattle.std.proofs.lemmas.List.{get_or-take, get_or-drop, get_or-replicate, length-replicate}
 use Rattle.strc_base.specs.Results.{result_and_then}
@@ -14,138 +15,157 @@ use Rattle.strc_semantics.specs.Filters.{body_block}
 use Rattle.strc_semantics.specs.Scoping.{Scope, cells_of, total, slot_of}
 use Rattle.strc_semantics.specs.Closed.{IsNamed, IsClosedInitial, AreClosedFields}
 use Rattle.strc_semantics.specs.Closed.{AreClosedMembers, IsClosedFilter}
-use Rattle.strc_semantics.specs.Firing.{Variables, Store, Traffic, value_of, assigned, block_left}
+use Rattle.strc_semantics.specs.Firing.{Setting, Variables, Store, Traffic, value_of, assigned}
+use Rattle.strc_semantics.specs.Firing.{block_left}
 use Rattle.strc_semantics.specs.Firing.{inside, stmts_done, bound_onto, no_traffic, store_at}
 use Rattle.strc_semantics.specs.Firing.{field_values, no_io, initial_given, fields_started}
 use Rattle.strc_semantics.specs.Firing.{members_started, inits_done, started, Fired, port_of, fired}
+use Rattle.strc_semantics.specs.Firing.{setting_at, setting_of}
 use Rattle.strc_code.specs.Nodes.{Machine, nodes_done, nodes_room}
 use Rattle.strc_code.specs.Lowering.{stmts_nodes, field_scope, field_nodes, fields_nodes}
 use Rattle.strc_code.specs.Lowering.{initials_nodes, inits_nodes, start_nodes, body_nodes}
 use Rattle.strc_code.specs.Lowering.{slot_count}
 use Rattle.strc_code.proofs.Totals.{total-reverse}
-use Rattle.strc_code.proofs.ClosedBodies.{body_closed}
+use Rattle.strc_code.proofs.ClosedBodies.{body_kept}
 use Rattle.strc_work.proofs.Variables.{scope_of, at, Holds, values-Holds}
 use Rattle.strc_work.proofs.Related.{Related, then_related, map_related, nodes_done-before}
 use Rattle.strc_code.proofs.Spelled.{nodes_room-before}
+use Rattle.strc_work.proofs.Standing.{Stands, fields_stand}
 use Rattle.strc_work.proofs.Expressions.{Arrives, Ready, machine_at}
 use Rattle.strc_work.proofs.ExpressionRuns.{expr_runs}
 use Rattle.strc_work.proofs.Reaching.{Reaches, ReachesOn, empty_reaches, left_reaches, go_on}
+use Rattle.strc_work.proofs.Answered.{none_answer}
 use Rattle.strc_work.proofs.Declarations.{some_cell}
 use Rattle.strc_work.proofs.Assignments.{assigned_reaches}
 use Rattle.strc_work.proofs.StatementRuns.{stmt_runs, stmts_runs}
 
 -- ---- initialisers
 
-abbrev RunsMembers : List tree.Member → Type 0
-RunsMembers ms = (names : Scope) (store : Store) (slots : List ℤ) → AreClosedMembers names ms
-    → Ready names (total names) store slots → nodes_room (initials_nodes names ms) ≤ length slots
-    → Related (Reaches names (length slots)) (members_started ms store)
-    (nodes_done no_io (initials_nodes names ms) (machine_at slots store))
+abbrev RunsMembers : Setting → List tree.Member → Type 0
+RunsMembers setting ms = (names : Scope) (store : Store) (slots : List ℤ) → AreClosedMembers names
+    ms
+    → Stands setting names → Ready names (total names) store slots
+    → nodes_room (initials_nodes names ms) ≤ length slots
+    → Related (Reaches names (length slots)) (members_started setting ms store)
+    (nodes_done setting (initials_nodes names ms) (machine_at slots store))
 
-field_runs : (name : List ℕ) (initial : Option tree.Expr) (names : Scope) (store : Store)
-    (slots : List ℤ) → IsNamed names name × IsClosedInitial names initial
-    → Ready names (total names) store slots
+field_runs : (setting : Setting) (name : List ℕ) (initial : Option tree.Expr) (names : Scope)
+    (store : Store) (slots : List ℤ) → IsNamed names name × IsClosedInitial names initial
+    → Stands setting names → Ready names (total names) store slots
     → nodes_room (field_nodes names name initial) ≤ length slots
-    → Related (Reaches names (length slots)) (initial_given name initial store)
-    (nodes_done no_io (field_nodes names name initial) (machine_at slots store))
-field_runs name None names store slots closed ready room = empty_reaches names store slots ready
-field_runs name (Some initial) names store slots closed ready room =
+    → Related (Reaches names (length slots)) (initial_given setting name initial store)
+    (nodes_done setting (field_nodes names name initial) (machine_at slots store))
+field_runs setting name None names store slots closed stands ready room = empty_reaches names store
+    slots ready
+field_runs setting name (Some initial) names store slots closed stands ready room =
     map_related (Arrives names (slot_of names name) (total names) slots)
     (Reaches names (length slots)) (λ given. assigned given.1 name given.0)
-    (value_of no_io initial store) (nodes_done no_io (field_nodes names name (Some initial))
-    (machine_at slots store)) (expr_runs no_io initial names (slot_of names name)
-    (total names) store slots closed.1 ready room)
+    (value_of setting initial store)
+    (nodes_done setting (field_nodes names name (Some initial))
+    (machine_at slots store)) (expr_runs setting initial names (slot_of names name)
+    (total names) store slots closed.1 stands ready room)
     (λ given m arrives. assigned_reaches names name slots given m closed.0 ready.roomy arrives)
 
-fields_run : (cells : ℕ) (vs : List tree.Variable) (names : Scope) (store : Store) (slots : List ℤ)
-    → AreClosedFields names cells vs → Ready names (total names) store slots
+fields_run : (setting : Setting) (cells : ℕ) (vs : List tree.Variable) (names : Scope)
+    (store : Store) (slots : List ℤ)
+    → AreClosedFields names cells vs → Stands setting names → Ready names (total names) store slots
     → nodes_room (fields_nodes names vs) ≤ length slots
-    → Related (Reaches names (length slots)) (fields_started vs store)
-    (nodes_done no_io (fields_nodes names vs) (machine_at slots store))
-fields_run cells [] names store slots closed ready room = empty_reaches names store slots ready
-fields_run cells (first ∷ rest) names store slots closed ready room =
+    → Related (Reaches names (length slots)) (fields_started setting vs store)
+    (nodes_done setting (fields_nodes names vs) (machine_at slots store))
+fields_run setting cells [] names store slots closed stands ready room = empty_reaches names store
+    slots ready
+fields_run setting cells (first ∷ rest) names store slots closed stands ready room =
     let a = field_nodes names first.name first.initial in
     let b = fields_nodes names rest in
     let room_a : nodes_room a ≤ length slots = omega (arith, nodes_room-before a b) in
     let room_b : nodes_room b ≤ length slots = omega (arith, nodes_room-before a b) in
     subst (Related (Reaches names (length slots))
-    (result_and_then (initial_given first.name first.initial store) (fields_started rest)))
-    (sym (nodes_done-before no_io a b (machine_at slots store)))
+    (result_and_then (initial_given setting first.name first.initial store)
+    (fields_started setting rest)))
+    (sym (nodes_done-before setting a b (machine_at slots store)))
     (then_related (Reaches names (length slots)) (Reaches names (length slots))
-    (initial_given first.name first.initial store) (nodes_done no_io a (machine_at slots store))
-    (fields_started rest) (nodes_done no_io b)
-    (field_runs first.name first.initial names store slots (closed.0.0, closed.0.1) ready room_a)
-    (λ given m is reaches.
-    go_on no_io b names names (length slots) (fields_started rest)
-    (λ store' slots' same ready'. fields_run cells rest names store' slots' closed.1 ready'
-    (omega arith)) given m reaches))
+    (initial_given setting first.name first.initial store)
+    (nodes_done setting a (machine_at slots store))
+    (fields_started setting rest) (nodes_done setting b)
+    (field_runs setting first.name first.initial names store slots (closed.0.0, closed.0.1) stands
+    ready room_a) (λ given m is reaches.
+    go_on setting b names names (length slots) (fields_started setting rest)
+    (λ store' slots' same ready'. fields_run setting cells rest names store' slots' closed.1 stands
+    ready' (omega arith)) given m reaches))
 
-members_run : (ms : List tree.Member) → RunsMembers ms
-members_run [] names store slots closed ready room = empty_reaches names store slots ready
-members_run (tree.Fields kind variables ∷ rest) names store slots closed ready room =
+members_run : (setting : Setting) (ms : List tree.Member) → RunsMembers setting ms
+members_run setting [] names store slots closed stands ready room = empty_reaches names store slots
+    ready
+members_run setting (tree.Fields kind variables ∷ rest) names store slots closed stands ready room =
     let a = fields_nodes names variables in
     let b = initials_nodes names rest in
     let room_a : nodes_room a ≤ length slots = omega (arith, nodes_room-before a b) in
     let room_b : nodes_room b ≤ length slots = omega (arith, nodes_room-before a b) in
     subst (Related (Reaches names (length slots))
-    (result_and_then (fields_started variables store) (members_started rest)))
-    (sym (nodes_done-before no_io a b (machine_at slots store)))
+    (result_and_then (fields_started setting variables store) (members_started setting rest)))
+    (sym (nodes_done-before setting a b (machine_at slots store)))
     (then_related (Reaches names (length slots)) (Reaches names (length slots))
-    (fields_started variables store) (nodes_done no_io a (machine_at slots store))
-    (members_started rest) (nodes_done no_io b)
-    (fields_run (cells_of kind) variables names store slots closed.0 ready room_a)
+    (fields_started setting variables store) (nodes_done setting a (machine_at slots store))
+    (members_started setting rest) (nodes_done setting b)
+    (fields_run setting (cells_of kind) variables names store slots closed.0 stands ready room_a)
     (λ given m is reaches.
-    go_on no_io b names names (length slots) (members_started rest)
-    (λ store' slots' same ready'. members_run rest names store' slots' closed.1 ready'
-    (omega arith)) given m reaches))
-members_run (tree.Init block ∷ rest) names store slots closed ready room =
-    members_run rest names store slots closed.1 ready room
-members_run (tree.Prework rates block ∷ rest) names store slots closed ready room =
-    members_run rest names store slots closed.1 ready room
-members_run (tree.Work rates block ∷ rest) names store slots closed ready room =
-    members_run rest names store slots closed.1 ready room
-members_run (tree.Helper kind name parameters block ∷ rest) names store slots closed ready room =
-    members_run rest names store slots closed.1 ready room
+    go_on setting b names names (length slots) (members_started setting rest)
+    (λ store' slots' same ready'. members_run setting rest names store' slots' closed.1 stands
+    ready' (omega arith)) given m reaches))
+members_run setting (tree.Init block ∷ rest) names store slots closed stands ready room =
+    members_run setting rest names store slots closed.1 stands ready room
+members_run setting (tree.Prework rates block ∷ rest) names store slots closed stands ready room =
+    members_run setting rest names store slots closed.1 stands ready room
+members_run setting (tree.Work rates block ∷ rest) names store slots closed stands ready room =
+    members_run setting rest names store slots closed.1 stands ready room
+members_run setting (tree.Helper kind name parameters block ∷ rest) names store slots closed stands
+    ready room =
+    members_run setting rest names store slots closed.1 stands ready room
 
 -- ---- blocks of `init`
 
-abbrev RunsInits : List tree.Member → Type 0
-RunsInits ms = (names : Scope) (store : Store) (slots : List ℤ) → AreClosedMembers names ms
-    → Ready names (total names) store slots → nodes_room (inits_nodes names ms) ≤ length slots
-    → Related (Reaches names (length slots)) (inits_done ms store)
-    (nodes_done no_io (inits_nodes names ms) (machine_at slots store))
+abbrev RunsInits : Setting → List tree.Member → Type 0
+RunsInits setting ms = (names : Scope) (store : Store) (slots : List ℤ) → AreClosedMembers names ms
+    → Stands setting names → Ready names (total names) store slots
+    → nodes_room (inits_nodes names ms) ≤ length slots
+    → Related (Reaches names (length slots)) (inits_done setting ms store)
+    (nodes_done setting (inits_nodes names ms) (machine_at slots store))
 
-inits_run : (ms : List tree.Member) → RunsInits ms
-inits_run [] names store slots closed ready room = empty_reaches names store slots ready
-inits_run (tree.Fields kind variables ∷ rest) names store slots closed ready room =
-    inits_run rest names store slots closed.1 ready room
-inits_run (tree.Init block ∷ rest) names store slots closed ready room =
-    let a = stmts_nodes names block in
+inits_run : (setting : Setting) (ms : List tree.Member) → RunsInits setting ms
+inits_run setting [] names store slots closed stands ready room = empty_reaches names store slots
+    ready
+inits_run setting (tree.Fields kind variables ∷ rest) names store slots closed stands ready room =
+    inits_run setting rest names store slots closed.1 stands ready room
+inits_run setting (tree.Init block ∷ rest) names store slots closed stands ready room =
+    let a = stmts_nodes names false block in
     let b = inits_nodes names rest in
+    let body = closed.0 in
     let room_a : nodes_room a ≤ length slots = omega (arith, nodes_room-before a b) in
     let room_b : nodes_room b ≤ length slots = omega (arith, nodes_room-before a b) in
     subst (Related (Reaches names (length slots))
-    (result_and_then (inside (stmts_done no_io block) store) (inits_done rest)))
-    (sym (nodes_done-before no_io a b (machine_at slots store)))
+    (result_and_then (inside (stmts_done setting block) store) (inits_done setting rest)))
+    (sym (nodes_done-before setting a b (machine_at slots store)))
     (then_related (Reaches names (length slots)) (Reaches names (length slots))
-    (inside (stmts_done no_io block) store) (nodes_done no_io a (machine_at slots store))
-    (inits_done rest) (nodes_done no_io b)
-    (stmt_runs no_io (tree.Block block) names store slots closed.0 ready room_a)
+    (inside (stmts_done setting block) store) (nodes_done setting a (machine_at slots store))
+    (inits_done setting rest) (nodes_done setting b)
+    (stmt_runs setting (tree.Block block) names store slots
+    (body.0, body.2, none_answer setting block names body.1) stands ready room_a)
     (λ given m is reaches.
-    go_on no_io b names names (length slots) (inits_done rest)
-    (λ store' slots' same ready'. inits_run rest names store' slots' closed.1 ready'
+    go_on setting b names names (length slots) (inits_done setting rest)
+    (λ store' slots' same ready'. inits_run setting rest names store' slots' closed.1 stands ready'
     (omega arith)) given m reaches))
-inits_run (tree.Prework rates block ∷ rest) names store slots closed ready room =
-    inits_run rest names store slots closed.1 ready room
-inits_run (tree.Work rates block ∷ rest) names store slots closed ready room =
-    inits_run rest names store slots closed.1 ready room
-inits_run (tree.Helper kind name parameters block ∷ rest) names store slots closed ready room =
-    inits_run rest names store slots closed.1 ready room
+inits_run setting (tree.Prework rates block ∷ rest) names store slots closed stands ready room =
+    inits_run setting rest names store slots closed.1 stands ready room
+inits_run setting (tree.Work rates block ∷ rest) names store slots closed stands ready room =
+    inits_run setting rest names store slots closed.1 stands ready room
+inits_run setting (tree.Helper kind name parameters block ∷ rest) names store slots closed stands
+    ready room =
+    inits_run setting rest names store slots closed.1 stands ready room
 
 -- ---- fields and slots
 
 -- each field has a cell
-abbrev HasCells : Scope → Type 0
+abbrev pub HasCells : Scope → Type 0
 HasCells [] = Unit {0}
 HasCells (first ∷ rest) = (1 ≤ first.1) × HasCells rest
 
@@ -159,7 +179,7 @@ fields_cells names cells [] closed = tt
 fields_cells names cells (first ∷ rest) closed =
     (some_cell cells first.initial closed.0.2, fields_cells names cells rest closed.1)
 
-members_cells : (names : Scope) (ms : List tree.Member) → AreClosedMembers names ms
+pub members_cells : (names : Scope) (ms : List tree.Member) → AreClosedMembers names ms
     → HasCells (sized_fields ms)
 members_cells names [] closed = tt
 members_cells names (tree.Fields kind variables ∷ rest) closed =
@@ -171,7 +191,7 @@ members_cells names (tree.Work rates block ∷ rest) closed = members_cells name
 members_cells names (tree.Helper kind name parameters block ∷ rest) closed =
     members_cells names rest closed.1
 
-scope_of-bound_onto : (variables : Variables) (fields : Scope) (values : List ℤ)
+pub scope_of-bound_onto : (variables : Variables) (fields : Scope) (values : List ℤ)
     → total fields ≤ length values → scope_of (bound_onto variables fields values) ≡ reverse fields
     ++ scope_of variables
 scope_of-bound_onto variables [] values fits = refl
@@ -185,7 +205,7 @@ scope_of-bound_onto variables (field ∷ fields) values fits =
     ∙ sym (append_assoc (reverse fields) (field ∷ []) (scope_of variables))
     ∙ ap (λ l. l ++ scope_of variables) (sym (reverse-append (field ∷ []) fields))
 
-Holds-bound_onto : (variables : Variables) (fields : Scope) (values slots : List ℤ)
+pub Holds-bound_onto : (variables : Variables) (fields : Scope) (values slots : List ℤ)
     → HasCells fields → total fields ≤ length values → Holds variables slots
     → ((k : ℕ) → k < total fields → at slots (total (scope_of variables) + k) ≡ at values k)
     → Holds (bound_onto variables fields values) slots
@@ -245,9 +265,11 @@ pub record IsStarted (filter : Filter) (size : ℕ) (values : List ℤ) (after :
 
 pub start_runs : (filter : Filter) (size : ℕ) → IsClosedFilter filter → slot_count filter ≤ size
     → Related (IsStarted filter size) (started filter)
-    (nodes_done no_io (start_nodes filter)
+    (nodes_done (setting_at filter.members no_io) (start_nodes filter)
     (record { slots = replicate size (pos 0); traffic = no_traffic }))
 start_runs filter size closed room =
+    let setting = setting_at filter.members no_io in
+    let stands = fields_stand filter no_io in
     let count = total (sized_fields filter.members) in
     let scope = field_scope filter in
     let slots = replicate size (pos 0) in
@@ -265,20 +287,21 @@ start_runs filter size closed room =
     (λ k lt. get_or-replicate size k (pos 0) (pos 0) (omega arith)
     ∙ sym (get_or-replicate count k (pos 0) (pos 0) (omega arith))) fields in
     let rest : Store → Result (List ℤ) Cause =
-    λ initialised. result_and_then (inits_done filter.members initialised)
+    λ initialised. result_and_then (inits_done setting filter.members initialised)
     (λ done. Ok (field_values done)) in
     subst (Related (IsStarted filter size)
-    (result_and_then (members_started filter.members store) rest))
-    (sym (nodes_done-before no_io a b (machine_at slots store)))
+    (result_and_then (members_started setting filter.members store) rest))
+    (sym (nodes_done-before setting a b (machine_at slots store)))
     (then_related (Reaches scope (length slots)) (IsStarted filter size)
-    (members_started filter.members store) (nodes_done no_io a (machine_at slots store)) rest
-    (nodes_done no_io b) (members_run filter.members scope store slots closed ready room_a)
-    (λ initialised m is reaches.
+    (members_started setting filter.members store) (nodes_done setting a (machine_at slots store))
+    rest
+    (nodes_done setting b) (members_run setting filter.members scope store slots closed stands ready
+    room_a) (λ initialised m is reaches.
     map_related (Reaches scope (length slots)) (IsStarted filter size) field_values
-    (inits_done filter.members initialised) (nodes_done no_io b m)
-    (go_on no_io b scope scope (length slots) (inits_done filter.members)
-    (λ store' slots' same ready'. inits_run filter.members scope store' slots' closed ready'
-    (omega arith)) initialised m reaches) (λ given after reaches'.
+    (inits_done setting filter.members initialised) (nodes_done setting b m)
+    (go_on setting b scope scope (length slots) (inits_done setting filter.members)
+    (λ store' slots' same ready'. inits_run setting filter.members scope store' slots' closed stands
+    ready' (omega arith)) initialised m reaches) (λ given after reaches'.
     let same = reaches'.same in
     record {
       fields = field_values-Holds filter given after.slots reaches'.names_are reaches'.holds
@@ -305,13 +328,14 @@ pub body_runs : (filter : Filter) (body : Body) (fields slots window : List ℤ)
     → IsClosedFilter filter → length fields ≡ total (sized_fields filter.members)
     → ((k : ℕ) → k < length fields → at slots k ≡ at fields k) → slot_count filter ≤ length slots
     → Related (HasFired filter (length slots)) (fired filter body fields window)
-    (nodes_done (port_of filter body window) (body_nodes body filter)
+    (nodes_done (setting_of filter body window) (body_nodes body filter)
     (record { slots = slots; traffic = no_traffic }))
 body_runs filter body fields slots window closed e fields_hold room =
     let names = field_scope filter in
     let store = store_at filter fields in
-    let port = port_of filter body window in
+    let setting = setting_of filter body window in
     let block = body_block body filter.members in
+    let whole = body_kept body names filter.members closed in
     let enough : total (sized_fields filter.members) ≤ length slots = omega arith in
     let fits : nodes_room (body_nodes body filter) ≤ length slots =
     body_fits filter body (length slots) room in
@@ -323,10 +347,12 @@ body_runs filter body fields slots window closed e fields_hold room =
       pushes = left.traffic.pushes;
       words =
           left.traffic.words;
-    }) (stmts_done port block store)
-    (nodes_done port (body_nodes body filter) (machine_at slots store))
-    (stmts_runs port block names store slots
-    (body_closed body names filter.members closed) ready fits) (λ inner after reaches.
+    }) (stmts_done setting block store)
+    (nodes_done setting (body_nodes body filter) (machine_at slots store))
+    (stmts_runs setting block false names store slots
+    (whole.0, whole.2, none_answer setting block names whole.1)
+    (fields_stand filter (port_of filter body window)) ready (λ r. absurd (false≢true r)) fits)
+    (λ inner after reaches.
     let left = left_reaches names slots store inner after ready reaches in
     let same = left.same in
     record {

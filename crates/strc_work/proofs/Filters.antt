@@ -11,11 +11,15 @@ use Rattle.strc_syntax.specs.Tree as tree
 use Rattle.strc_syntax.specs.declared.tree.ItemType.{ItemType}
 use Rattle.strc_semantics.specs.Filters.{Filter, work_count}
 use Rattle.strc_check.specs.declared.error.LowerError.{LowerError}
-use Rattle.strc_check.specs.declared.types.ValueType.{ValueType}
-use Rattle.strc_check.specs.Typing.{TypedNames, type_of, names_after_fields}
+use Rattle.strc_semantics.specs.declared.types.ValueType.{ValueType}
+use Rattle.strc_semantics.specs.Typing.{TypedNames, type_of, names_after_fields}
 use Rattle.strc_check.specs.Resolution.{Context, ResolvedType, Work, where_kept, initial_resolved}
 use Rattle.strc_check.specs.Resolution.{number_resolved, type_resolved, carries_items, side_of}
-use Rattle.strc_check.specs.Resolution.{init_context, body_context, rate_fits, rate_resolved}
+use Rattle.strc_check.specs.Resolution.{start_context, helper_context, body_context, is_taken}
+use Rattle.strc_check.specs.Resolution.{rate_fits, rate_resolved, parameter_resolved, known_after}
+use Rattle.strc_check.specs.Resolution.{parameters_resolved}
+use Rattle.strc_check.specs.Signatures.{Signatures, signatures_after, with_parameters}
+use Rattle.strc_semantics.specs.declared.types.ValueType.TheVariants.{Int}
 use Rattle.strc_check.specs.Resolution.{rates_resolved, field_resolved, fields_resolved}
 use Rattle.strc_check.specs.Resolution.{fields_after, body_resolved, work_resolved, member_resolved}
 use Rattle.strc_check.specs.Resolution.{members_resolved, prework_count, init_count, has_parts}
@@ -25,7 +29,7 @@ use Rattle.strc_work.specs.Expressions.{InitialHasType}
 use Rattle.strc_work.specs.Numbers.{HasNumber}
 use Rattle.strc_work.specs.Statements.{IsDeclarable, AreWellFormed}
 use Rattle.strc_work.specs.Filters.{IsRate, AreRates, AreFields, IsWellFormedMember}
-use Rattle.strc_work.specs.Filters.{AreWellFormedMembers, IsWellTyped}
+use Rattle.strc_work.specs.Filters.{AreWellFormedMembers, IsWellTyped, AreParameters}
 use Rattle.strc_work.proofs.Accepting.{kept_gives, kept_is, then_is, then_ok, any_ok, given}
 use Rattle.strc_work.proofs.Accepting.{is_ok_of, not_true, not_false}
 use Rattle.strc_work.proofs.TypesOfExpressions.{initial_gives, initial_ok}
@@ -181,18 +185,19 @@ fields_ok context fields before kind (first ∷ rest) h =
 
 -- a body with its rates
 
-abbrev IsWorkBody : (constants : List (List ℕ × ℤ)) (input output : ItemType)
+abbrev IsWorkBody : (constants : List (List ℕ × ℤ)) (helpers : Signatures) (input output : ItemType)
     (fields : TypedNames) → Work → Type 0
-IsWorkBody constants input output fields work =
+IsWorkBody constants helpers input output fields work =
     AreRates constants fields input output work.rates
-    × AreWellFormed (body_context constants input output) fields (length fields) work.block
+    × AreWellFormed (body_context constants helpers input output) fields (length fields) work.block
 
-work_gives : (constants : List (List ℕ × ℤ)) (input output : ItemType) (fields : TypedNames)
-    (work : Work) → Gives (λ (w : Work). IsWorkBody constants input output fields work)
-    (work_resolved constants input output fields work)
-work_gives constants input output fields work =
-    let Q : Work → Type 0 = λ w. IsWorkBody constants input output fields work in
-    let context = body_context constants input output in
+work_gives : (constants : List (List ℕ × ℤ)) (helpers : Signatures) (input output : ItemType)
+    (fields : TypedNames) (work : Work) → Gives
+    (λ (w : Work). IsWorkBody constants helpers input output fields work)
+    (work_resolved constants helpers input output fields work)
+work_gives constants helpers input output fields work =
+    let Q : Work → Type 0 = λ w. IsWorkBody constants helpers input output fields work in
+    let context = body_context constants helpers input output in
     then_gives (λ (r : List tree.Rate). AreRates constants fields input output work.rates) Q
     (rates_resolved constants fields input output work.rates)
     (λ r. result_and_then (body_resolved context fields work.block)
@@ -202,11 +207,11 @@ work_gives constants input output fields work =
     (body_resolved context fields work.block) (λ b. Ok (record { rates = r; block = b }))
     (stmts_give context fields (length fields) work.block) (λ b h'. (h, h')))
 
-work_ok : (constants : List (List ℕ × ℤ)) (input output : ItemType) (fields : TypedNames)
-    (work : Work) → IsWorkBody constants input output fields work
-    → IsOk (work_resolved constants input output fields work)
-work_ok constants input output fields work h =
-    let context = body_context constants input output in
+work_ok : (constants : List (List ℕ × ℤ)) (helpers : Signatures) (input output : ItemType)
+    (fields : TypedNames) (work : Work) → IsWorkBody constants helpers input output fields work
+    → IsOk (work_resolved constants helpers input output fields work)
+work_ok constants helpers input output fields work h =
+    let context = body_context constants helpers input output in
     let made : List tree.Rate → tree.Stmts → Result Work LowerError =
     λ r b. Ok (record { rates = r; block = b }) in
     any_ok (rates_resolved constants fields input output work.rates)
@@ -215,15 +220,48 @@ work_ok constants input output fields work h =
     any_ok (body_resolved context fields work.block) (made r)
     (stmts_ok context fields (length fields) work.block h.1) (λ b. refl))
 
+-- parameters
+
+parameters_give : (names : TypedNames) (outer : ℕ) (parameters : List (List ℕ))
+    → Gives (λ (p : List (List ℕ)). AreParameters names outer parameters)
+    (parameters_resolved names outer parameters)
+parameters_give names outer [] = tt
+parameters_give names outer (first ∷ rest) =
+    let inner : TypedNames = record { 0 = first; 1 = Int } ∷ names in
+    let taken = is_taken names outer first in
+    let Q : List (List ℕ) → Type 0 = λ p. AreParameters names outer (first ∷ rest) in
+    then_gives (λ (n : List ℕ). taken ≡ false) Q (parameter_resolved names outer first)
+    (λ f. result_and_then (parameters_resolved inner outer rest) (λ r. Ok (f ∷ r)))
+    (kept_gives (λ (n : List ℕ). taken ≡ false) (not taken) (Ok first)
+    (λ free. not_true taken free)) (λ f h.
+    then_gives (λ (p : List (List ℕ)). AreParameters inner outer rest) Q
+    (parameters_resolved inner outer rest) (λ r. Ok (f ∷ r))
+    (parameters_give inner outer rest) (λ r h'. (h, h')))
+
+parameters_ok : (names : TypedNames) (outer : ℕ) (parameters : List (List ℕ))
+    → AreParameters names outer parameters → IsOk (parameters_resolved names outer parameters)
+parameters_ok names outer [] h = refl
+parameters_ok names outer (first ∷ rest) h =
+    let inner : TypedNames = record { 0 = first; 1 = Int } ∷ names in
+    let taken = is_taken names outer first in
+    any_ok (parameter_resolved names outer first)
+    (λ f. result_and_then (parameters_resolved inner outer rest) (λ r. Ok (f ∷ r)))
+    (is_ok_of (parameter_resolved names outer first) first
+    (kept_is (not taken) (Ok first) (not_false taken h.0))) (λ f.
+    any_ok (parameters_resolved inner outer rest) (λ r. Ok (f ∷ r))
+    (parameters_ok inner outer rest h.1) (λ r. refl))
+
 -- members
 
-member_gives : (constants : List (List ℕ × ℤ)) (input output : ItemType) (fields : TypedNames)
-    (before : List (List ℕ)) (m : tree.Member)
-    → Gives (λ (m' : tree.Member). IsWellFormedMember constants input output fields before m)
-    (member_resolved constants input output fields before m)
-member_gives constants input output fields before (tree.Fields kind variables) =
-    let context = init_context constants in
-    let Q : tree.Member → Type 0 = λ m'. IsWellFormedMember constants input output fields before
+member_gives : (constants : List (List ℕ × ℤ)) (helpers : Signatures) (input output : ItemType)
+    (fields : TypedNames) (before known : List (List ℕ)) (m : tree.Member)
+    → Gives (λ (m' : tree.Member). IsWellFormedMember constants helpers input output fields before
+    known m)
+    (member_resolved constants helpers input output fields before known m)
+member_gives constants helpers input output fields before known (tree.Fields kind variables) =
+    let context = start_context constants helpers in
+    let Q : tree.Member → Type 0 = λ m'. IsWellFormedMember constants helpers input output fields
+    before known
     (tree.Fields kind variables) in
     then_gives (λ (t : ResolvedType). IsDeclarable constants fields kind
     × (t.kind ≡ type_of kind)) Q (type_resolved constants fields kind)
@@ -233,32 +271,51 @@ member_gives constants input output fields before (tree.Fields kind variables) =
     (fields_resolved context fields before t.kind variables) (λ v. Ok (tree.Fields t.written v))
     (fields_give context fields before t.kind variables)
     (λ v h'. (h.0, subst (λ k. AreFields context fields before k variables) h.1 h')))
-member_gives constants input output fields before (tree.Init block) =
-    let context = init_context constants in
+member_gives constants helpers input output fields before known (tree.Init block) =
+    let context = start_context constants helpers in
     then_gives (λ (b : tree.Stmts). AreWellFormed context fields (length fields) block)
     (λ (m' : tree.Member). AreWellFormed context fields (length fields) block)
     (body_resolved context fields block) (λ b. Ok (tree.Init b))
     (stmts_give context fields (length fields) block) (λ b h. h)
-member_gives constants input output fields before (tree.Prework rates block) =
+member_gives constants helpers input output fields before known (tree.Prework rates block) =
     let work : Work = record { rates = rates; block = block } in
-    then_gives (λ (w : Work). IsWorkBody constants input output fields work)
-    (λ (m' : tree.Member). IsWorkBody constants input output fields work)
-    (work_resolved constants input output fields work) (λ w. Ok (tree.Prework w.rates w.block))
-    (work_gives constants input output fields work) (λ w h. h)
-member_gives constants input output fields before (tree.Work rates block) =
+    then_gives (λ (w : Work). IsWorkBody constants helpers input output fields work)
+    (λ (m' : tree.Member). IsWorkBody constants helpers input output fields work)
+    (work_resolved constants helpers input output fields work)
+    (λ w. Ok (tree.Prework w.rates w.block))
+    (work_gives constants helpers input output fields work) (λ w h. h)
+member_gives constants helpers input output fields before known (tree.Work rates block) =
     let work : Work = record { rates = rates; block = block } in
-    then_gives (λ (w : Work). IsWorkBody constants input output fields work)
-    (λ (m' : tree.Member). IsWorkBody constants input output fields work)
-    (work_resolved constants input output fields work) (λ w. Ok (tree.Work w.rates w.block))
-    (work_gives constants input output fields work) (λ w h. h)
-member_gives constants input output fields before (tree.Helper kind name parameters block) = tt
+    then_gives (λ (w : Work). IsWorkBody constants helpers input output fields work)
+    (λ (m' : tree.Member). IsWorkBody constants helpers input output fields work)
+    (work_resolved constants helpers input output fields work) (λ w. Ok (tree.Work w.rates w.block))
+    (work_gives constants helpers input output fields work) (λ w h. h)
+member_gives constants helpers input output fields before known
+    (tree.Helper kind name parameters block) =
+    let context = helper_context constants helpers kind in
+    let names = with_parameters fields parameters in
+    let there = has_name known name in
+    let Q : tree.Member → Type 0 = λ m'. IsWellFormedMember constants helpers input output fields
+    before known (tree.Helper kind name parameters block) in
+    let given = parameters_resolved fields (length fields) parameters in
+    kept_gives Q (not there) (result_and_then given
+    (λ p. result_and_then (body_resolved context names block)
+    (λ b. Ok (tree.Helper kind name p b)))) (λ new.
+    then_gives (λ (p : List (List ℕ)). AreParameters fields (length fields) parameters) Q given
+    (λ p. result_and_then (body_resolved context names block)
+    (λ b. Ok (tree.Helper kind name p b)))
+    (parameters_give fields (length fields) parameters) (λ p h.
+    then_gives (λ (b : tree.Stmts). AreWellFormed context names (length names) block) Q
+    (body_resolved context names block) (λ b. Ok (tree.Helper kind name p b))
+    (stmts_give context names (length names) block)
+    (λ b h'. record { 0 = not_true there new; 1 = h; 2 = h' })))
 
-member_ok : (constants : List (List ℕ × ℤ)) (input output : ItemType) (fields : TypedNames)
-    (before : List (List ℕ)) (m : tree.Member)
-    → IsWellFormedMember constants input output fields before m
-    → IsOk (member_resolved constants input output fields before m)
-member_ok constants input output fields before (tree.Fields kind variables) h =
-    let context = init_context constants in
+member_ok : (constants : List (List ℕ × ℤ)) (helpers : Signatures) (input output : ItemType)
+    (fields : TypedNames) (before known : List (List ℕ)) (m : tree.Member)
+    → IsWellFormedMember constants helpers input output fields before known m
+    → IsOk (member_resolved constants helpers input output fields before known m)
+member_ok constants helpers input output fields before known (tree.Fields kind variables) h =
+    let context = start_context constants helpers in
     then_ok (λ (t : ResolvedType). IsDeclarable constants fields kind
     × (t.kind ≡ type_of kind)) (type_resolved constants fields kind)
     (λ t. result_and_then (fields_resolved context fields before t.kind variables)
@@ -267,61 +324,82 @@ member_ok constants input output fields before (tree.Fields kind variables) h =
     any_ok (fields_resolved context fields before t.kind variables)
     (λ v. Ok (tree.Fields t.written v)) (fields_ok context fields before t.kind variables
     (subst (λ k. AreFields context fields before k variables) (sym is.1) h.1)) (λ v. refl))
-member_ok constants input output fields before (tree.Init block) h =
-    any_ok (body_resolved (init_context constants) fields block) (λ b. Ok (tree.Init b))
-    (stmts_ok (init_context constants) fields (length fields) block h) (λ b. refl)
-member_ok constants input output fields before (tree.Prework rates block) h =
+member_ok constants helpers input output fields before known (tree.Init block) h =
+    any_ok (body_resolved (start_context constants helpers) fields block) (λ b. Ok (tree.Init b))
+    (stmts_ok (start_context constants helpers) fields (length fields) block h) (λ b. refl)
+member_ok constants helpers input output fields before known (tree.Prework rates block) h =
     let work : Work = record { rates = rates; block = block } in
-    any_ok (work_resolved constants input output fields work)
-    (λ w. Ok (tree.Prework w.rates w.block)) (work_ok constants input output fields work h)
+    any_ok (work_resolved constants helpers input output fields work)
+    (λ w. Ok (tree.Prework w.rates w.block)) (work_ok constants helpers input output fields work h)
     (λ w. refl)
-member_ok constants input output fields before (tree.Work rates block) h =
+member_ok constants helpers input output fields before known (tree.Work rates block) h =
     let work : Work = record { rates = rates; block = block } in
-    any_ok (work_resolved constants input output fields work)
-    (λ w. Ok (tree.Work w.rates w.block)) (work_ok constants input output fields work h)
+    any_ok (work_resolved constants helpers input output fields work)
+    (λ w. Ok (tree.Work w.rates w.block)) (work_ok constants helpers input output fields work h)
     (λ w. refl)
-member_ok constants input output fields before (tree.Helper kind name parameters block) h =
-    absurd h
+member_ok constants helpers input output fields before known
+    (tree.Helper kind name parameters block) h =
+    let context = helper_context constants helpers kind in
+    let names = with_parameters fields parameters in
+    let there = has_name known name in
+    let given = parameters_resolved fields (length fields) parameters in
+    let go : List (List ℕ) → Result tree.Member LowerError =
+    λ p. result_and_then (body_resolved context names block)
+    (λ b. Ok (tree.Helper kind name p b)) in
+    subst IsOk (sym (kept_is (not there) (result_and_then given go) (not_false there h.0)))
+    (any_ok given go (parameters_ok fields (length fields) parameters h.1) (λ p.
+    any_ok (body_resolved context names block) (λ b. Ok (tree.Helper kind name p b))
+    (stmts_ok context names (length names) block h.2) (λ b. refl)))
 
-members_give : (constants : List (List ℕ × ℤ)) (input output : ItemType) (fields : TypedNames)
-    (before : List (List ℕ)) (ms : List tree.Member)
-    → Gives (λ (r : List tree.Member). AreWellFormedMembers constants input output fields before ms)
-    (members_resolved constants input output fields before ms)
-members_give constants input output fields before [] = tt
-members_give constants input output fields before (first ∷ rest) =
+members_give : (constants : List (List ℕ × ℤ)) (helpers : Signatures) (input output : ItemType)
+    (fields : TypedNames) (before known : List (List ℕ)) (ms : List tree.Member)
+    → Gives (λ (r : List tree.Member). AreWellFormedMembers constants helpers input output fields
+    before known ms)
+    (members_resolved constants helpers input output fields before known ms)
+members_give constants helpers input output fields before known [] = tt
+members_give constants helpers input output fields before known (first ∷ rest) =
     let Q : List tree.Member → Type 0 =
-    λ r. AreWellFormedMembers constants input output fields before (first ∷ rest) in
+    λ r. AreWellFormedMembers constants helpers input output fields before known (first ∷ rest) in
     let later = fields_after before first in
-    then_gives (λ (m : tree.Member). IsWellFormedMember constants input output fields before first)
-    Q (member_resolved constants input output fields before first)
-    (λ f. result_and_then (members_resolved constants input output fields later rest)
-    (λ r. Ok (f ∷ r))) (member_gives constants input output fields before first) (λ f h.
-    then_gives (λ (r : List tree.Member). AreWellFormedMembers constants input output fields later
-    rest) Q (members_resolved constants input output fields later rest) (λ r. Ok (f ∷ r))
-    (members_give constants input output fields later rest) (λ r h'. (h, h')))
+    let next = known_after known first in
+    then_gives (λ (m : tree.Member). IsWellFormedMember constants helpers input output fields before
+    known first)
+    Q (member_resolved constants helpers input output fields before known first)
+    (λ f. result_and_then (members_resolved constants helpers input output fields later next rest)
+    (λ r. Ok (f ∷ r))) (member_gives constants helpers input output fields before known first)
+    (λ f h.
+    then_gives (λ (r : List tree.Member). AreWellFormedMembers constants helpers input output fields
+    later next
+    rest) Q (members_resolved constants helpers input output fields later next rest)
+    (λ r. Ok (f ∷ r))
+    (members_give constants helpers input output fields later next rest) (λ r h'. (h, h')))
 
-members_ok : (constants : List (List ℕ × ℤ)) (input output : ItemType) (fields : TypedNames)
-    (before : List (List ℕ)) (ms : List tree.Member)
-    → AreWellFormedMembers constants input output fields before ms
-    → IsOk (members_resolved constants input output fields before ms)
-members_ok constants input output fields before [] h = refl
-members_ok constants input output fields before (first ∷ rest) h =
+members_ok : (constants : List (List ℕ × ℤ)) (helpers : Signatures) (input output : ItemType)
+    (fields : TypedNames) (before known : List (List ℕ)) (ms : List tree.Member)
+    → AreWellFormedMembers constants helpers input output fields before known ms
+    → IsOk (members_resolved constants helpers input output fields before known ms)
+members_ok constants helpers input output fields before known [] h = refl
+members_ok constants helpers input output fields before known (first ∷ rest) h =
     let later = fields_after before first in
-    any_ok (member_resolved constants input output fields before first)
-    (λ f. result_and_then (members_resolved constants input output fields later rest)
-    (λ r. Ok (f ∷ r))) (member_ok constants input output fields before first h.0) (λ f.
-    any_ok (members_resolved constants input output fields later rest) (λ r. Ok (f ∷ r))
-    (members_ok constants input output fields later rest h.1) (λ r. refl))
+    let next = known_after known first in
+    any_ok (member_resolved constants helpers input output fields before known first)
+    (λ f. result_and_then (members_resolved constants helpers input output fields later next rest)
+    (λ r. Ok (f ∷ r))) (member_ok constants helpers input output fields before known first h.0)
+    (λ f.
+    any_ok (members_resolved constants helpers input output fields later next rest)
+    (λ r. Ok (f ∷ r))
+    (members_ok constants helpers input output fields later next rest h.1) (λ r. refl))
 
-pub walk_accepts_members : (constants : List (List ℕ × ℤ)) (input output : ItemType)
-    (fields : TypedNames) (before : List (List ℕ)) (ms : List tree.Member)
-    → IsOk (members_resolved constants input output fields before ms)
-    ↔ AreWellFormedMembers constants input output fields before ms
-walk_accepts_members constants input output fields before ms = (
-  λ ok. given (AreWellFormedMembers constants input output fields before ms)
-      (members_resolved constants input output fields before ms)
-      (members_give constants input output fields before ms) ok,
-  members_ok constants input output fields before ms,
+pub walk_accepts_members : (constants : List (List ℕ × ℤ)) (helpers : Signatures)
+    (input output : ItemType)
+    (fields : TypedNames) (before known : List (List ℕ)) (ms : List tree.Member)
+    → IsOk (members_resolved constants helpers input output fields before known ms)
+    ↔ AreWellFormedMembers constants helpers input output fields before known ms
+walk_accepts_members constants helpers input output fields before known ms = (
+  λ ok. given (AreWellFormedMembers constants helpers input output fields before known ms)
+      (members_resolved constants helpers input output fields before known ms)
+      (members_give constants helpers input output fields before known ms) ok,
+  members_ok constants helpers input output fields before known ms,
 )
 
 -- filters
@@ -348,14 +426,16 @@ filter_gives : (constants : List (List ℕ × ℤ)) (filter : Filter)
 filter_gives constants filter =
     let ms = filter.members in
     let fields = names_after_fields [] ms in
+    let helpers = signatures_after [] ms in
     let Q : Filter → Type 0 = λ f. IsWellTyped constants filter in
-    let walked = members_resolved constants filter.input filter.output fields [] ms in
+    let walked = members_resolved constants helpers filter.input filter.output fields [] [] ms in
     kept_gives Q (has_parts ms)
     (result_and_then walked (λ ms'. Ok (record filter { members = ms' })))
     (λ parts. let h = parts_are (work_count ms) (prework_count ms) (init_count ms) parts in
-    then_gives (λ (r : List tree.Member). AreWellFormedMembers constants filter.input filter.output
-    fields [] ms) Q walked (λ ms'. Ok (record filter { members = ms' }))
-    (members_give constants filter.input filter.output fields [] ms) (λ ms' h'. record {
+    then_gives (λ (r : List tree.Member). AreWellFormedMembers constants helpers filter.input
+    filter.output
+    fields [] [] ms) Q walked (λ ms'. Ok (record filter { members = ms' }))
+    (members_give constants helpers filter.input filter.output fields [] [] ms) (λ ms' h'. record {
       work = h.work_is;
       prework = h.prework_within;
       init = h.init_within;
@@ -367,13 +447,15 @@ filter_ok : (constants : List (List ℕ × ℤ)) (filter : Filter) → IsWellTyp
 filter_ok constants filter h =
     let ms = filter.members in
     let fields = names_after_fields [] ms in
-    let walked = members_resolved constants filter.input filter.output fields [] ms in
+    let helpers = signatures_after [] ms in
+    let walked = members_resolved constants helpers filter.input filter.output fields [] [] ms in
     let go : List tree.Member → Result Filter LowerError =
     λ ms'. Ok (record filter { members = ms' }) in
     let parts : has_parts ms ≡ true =
     are_parts (work_count ms) (prework_count ms) (init_count ms) h.work h.prework h.init in
     subst IsOk (sym (kept_is (has_parts ms) (result_and_then walked go) parts))
-    (any_ok walked go (members_ok constants filter.input filter.output fields [] ms h.members)
+    (any_ok walked go (members_ok constants helpers filter.input filter.output fields [] [] ms
+    h.members)
     (λ ms'. refl))
 
 pub walk_accepts_filter : (constants : List (List ℕ × ℤ)) (filter : Filter)

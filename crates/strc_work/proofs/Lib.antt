@@ -1,8 +1,14 @@
 pub mod Variables
 pub mod Related
+pub mod Standing
+pub mod Answered
 pub mod Expressions
 pub mod Elements
+pub mod CallRuns
 pub mod ExpressionRuns
+pub mod Spared
+pub mod SparedStatements
+pub mod Helpers
 pub mod Reaching
 pub mod Loops
 pub mod Declarations
@@ -10,6 +16,7 @@ pub mod Assignments
 pub mod StatementRuns
 pub mod FilterRuns
 pub mod Printing
+pub mod Uncalled
 pub mod Answering
 pub mod Adding
 pub mod Runs
@@ -22,3 +29,9 @@ pub mod Numbers
 pub mod Statements
 pub mod Filters
 pub mod Examples
+pub mod Found
+pub mod Begun
+pub mod Calling
+pub mod Blind
+pub mod EndedAnswers
+pub mod HelperRuns

@@ -11,12 +11,13 @@ use Rattle.strc_syntax.specs.declared.tree.BinaryOperator.TheVariants as binary
 use Rattle.strc_semantics.specs.declared.fault.Cause.{Cause}
 use Rattle.strc_semantics.specs.Arithmetic.{unary_value, binary_value, is_true}
 use Rattle.strc_semantics.specs.Constants.{IsConstant, constant_value}
-use Rattle.strc_semantics.specs.Firing.{Port, Traffic, Store, cells_named, joined, value_of}
+use Rattle.strc_semantics.specs.Firing.{Setting, Traffic, Store, cells_named, joined, value_of}
+use Rattle.strc_semantics.specs.Firing.{alone}
 use Rattle.strc_semantics.proofs.ConstantValues.{constant_value_Ok, constant_value_Err}
 use Rattle.strc_check.specs.declared.error.LowerError.{LowerError}
-use Rattle.strc_check.specs.declared.types.ValueType.{ValueType}
-use Rattle.strc_check.specs.declared.types.ValueType.TheVariants.{Int, Boolean}
-use Rattle.strc_check.specs.Typing.{TypedNames, same_type}
+use Rattle.strc_semantics.specs.declared.types.ValueType.{ValueType}
+use Rattle.strc_semantics.specs.declared.types.ValueType.TheVariants.{Int, Boolean}
+use Rattle.strc_semantics.specs.Typing.{TypedNames, same_type}
 use Rattle.strc_check.specs.Resolution.{Typed, expect_type, read_as, constant_read, operand_type}
 use Rattle.strc_check.specs.Resolution.{sides_type, binary_type, unary_typed, binary_typed}
 use Rattle.strc_check.specs.Resolution.{conditional_typed, peek_typed, group_typed, expr_resolved}
@@ -29,15 +30,15 @@ use Rattle.strc_work.proofs.Accepting.{then_is}
 use Rattle.strc_work.proofs.TypesOfExpressions.{expr_accepts, expr_as_gives, expr_as_is}
 
 -- the value of an expression that names no variable
-pub constant_means : (port : Port) (value : tree.Expr) (store : Store) → IsConstant value
-    → value_of port value store
+pub constant_means : (setting : Setting) (value : tree.Expr) (store : Store) → IsConstant value
+    → value_of setting value store
     ≡ result_and_then (constant_value value) (λ number. Ok (number, store))
-constant_means port value store h = by_value (constant_value value) refl
+constant_means setting value store h = by_value (constant_value value) refl
   where
     by_value : (r : Result ℤ Cause) → constant_value value ≡ r
-        → value_of port value store ≡ result_and_then r (λ number. Ok (number, store))
-    by_value (Ok number) is = constant_value_Ok port value store number h is
-    by_value (Err cause) is = constant_value_Err port value store cause h is
+        → value_of setting value store ≡ result_and_then r (λ number. Ok (number, store))
+    by_value (Ok number) is = constant_value_Ok setting value store number h is
+    by_value (Err cause) is = constant_value_Err setting value store cause h is
 
 -- a constant's cell
 constant_cells : (constants : List (List ℕ × ℤ)) (name : List ℕ) (value : ℤ)
@@ -62,9 +63,9 @@ number_of (Err cause) = pos 0
 module _ (constants : List (List ℕ × ℤ)) where
   -- an expression without variables that means what another one means over the constants
   abbrev pub MeansAs : tree.Expr → tree.Expr → Type 0
-  MeansAs e made = IsConstant made × ((port : Port) (traffic : Traffic)
-      → value_of port e (constant_store constants traffic)
-      ≡ value_of port made (constant_store constants traffic))
+  MeansAs e made = IsConstant made × ((setting : Setting) (traffic : Traffic)
+      → value_of setting e (constant_store constants traffic)
+      ≡ value_of setting made (constant_store constants traffic))
 
   abbrev TypedMeansAs : tree.Expr → Typed → Type 0
   TypedMeansAs e typed = MeansAs e typed.value
@@ -82,25 +83,25 @@ module _ (constants : List (List ℕ × ℤ)) where
       (λ o. Ok (record { kind = operand_type operator; value = tree.Unary operator o }))
       (as_means (operand_type operator) e typed h) (λ o h'. (
         h'.0,
-        λ port traffic.
+        λ setting traffic.
             ap (λ r. result_and_then r (λ right. Ok (unary_value operator right.0, right.1)))
-            (h'.1 port traffic),
+            (h'.1 setting traffic),
       ))
 
   -- what follows a value without variables sees the same store
-  then_same : (store : Store) (port : Port) (e made : tree.Expr)
+  then_same : (store : Store) (setting : Setting) (e made : tree.Expr)
       (go go' : ℤ × Store → Result (ℤ × Store) Cause) → IsConstant made
-      → value_of port e store ≡ value_of port made store
+      → value_of setting e store ≡ value_of setting made store
       → ((value : ℤ) → go (value, store) ≡ go' (value, store))
-      → result_and_then (value_of port e store) go
-      ≡ result_and_then (value_of port made store) go'
-  then_same store port e made go go' h is same =
+      → result_and_then (value_of setting e store) go
+      ≡ result_and_then (value_of setting made store) go'
+  then_same store setting e made go go' h is same =
       ap (λ r. result_and_then r go) (is ∙ means) ∙ at (constant_value made)
       ∙ ap (λ r. result_and_then r go') (sym means)
     where
-      means : value_of port made store
+      means : value_of setting made store
           ≡ result_and_then (constant_value made) (λ number. Ok (number, store))
-      means = constant_means port made store h
+      means = constant_means setting made store h
 
       at : (r : Result ℤ Cause)
           → result_and_then (result_and_then r (λ number. Ok (number, store))) go
@@ -122,12 +123,12 @@ module _ (constants : List (List ℕ × ℤ)) where
       → MeansAs (tree.Binary operator l r) (tree.Binary operator l' r')
   sides_mean operator l r l' r' h h' = (
     (h.0, h'.0),
-    λ port traffic.
+    λ setting traffic.
         let store = constant_store constants traffic in
-        then_same store port l l' (λ first. joined operator first (value_of port r))
-        (λ first. joined operator first (value_of port r')) h.0 (h.1 port traffic)
-        (λ value. joined_same operator (value, store) (value_of port r) (value_of port r')
-        (h'.1 port traffic)),
+        then_same store setting l l' (λ first. joined operator first (value_of setting r))
+        (λ first. joined operator first (value_of setting r')) h.0 (h.1 setting traffic)
+        (λ value. joined_same operator (value, store) (value_of setting r) (value_of setting r')
+        (h'.1 setting traffic)),
   )
 
   binary_means : (operator : BinaryOperator) (l r : tree.Expr) (left right : Typed)
@@ -147,14 +148,14 @@ module _ (constants : List (List ℕ × ℤ)) where
       → MeansAs (tree.Conditional c t o) (tree.Conditional c' t' o')
   choice_means c t o c' t' o' h h' h'' = (
     record { 0 = h.0; 1 = h'.0; 2 = h''.0 },
-    λ port traffic.
+    λ setting traffic.
         let store = constant_store constants traffic in
-        then_same store port c c'
-        (λ test. cond (is_true test.0) (value_of port t test.1) (value_of port o test.1))
-        (λ test. cond (is_true test.0) (value_of port t' test.1) (value_of port o' test.1))
-        h.0 (h.1 port traffic) (λ value.
-        ap (λ r. cond (is_true value) r (value_of port o store)) (h'.1 port traffic)
-        ∙ ap (cond (is_true value) (value_of port t' store)) (h''.1 port traffic)),
+        then_same store setting c c'
+        (λ test. cond (is_true test.0) (value_of setting t test.1) (value_of setting o test.1))
+        (λ test. cond (is_true test.0) (value_of setting t' test.1) (value_of setting o' test.1))
+        h.0 (h.1 setting traffic) (λ value.
+        ap (λ r. cond (is_true value) r (value_of setting o store)) (h'.1 setting traffic)
+        ∙ ap (cond (is_true value) (value_of setting t' store)) (h''.1 setting traffic)),
   )
 
   conditional_means : (c t o : tree.Expr) (condition chosen other : Typed)
@@ -181,7 +182,7 @@ module _ (constants : List (List ℕ × ℤ)) where
       by_constant None is = tt
       by_constant (Some value) is = (
         tt,
-        λ port traffic.
+        λ setting traffic.
             ap (λ cells. Ok (slice_index_or cells 0 (pos 0), constant_store constants traffic))
             (constant_cells constants name value is),
       )
@@ -189,8 +190,8 @@ module _ (constants : List (List ℕ × ℤ)) where
   -- the walk substitutes constants, and the meaning stays
   expr_means : (names : TypedNames) (e : tree.Expr)
       → Gives (TypedMeansAs e) (expr_resolved (rate_context constants) names e)
-  expr_means names (tree.Number value) = (tt, λ port traffic. refl)
-  expr_means names (tree.Truth value) = (tt, λ port traffic. refl)
+  expr_means names (tree.Number value) = (tt, λ setting traffic. refl)
+  expr_means names (tree.Truth value) = (tt, λ setting traffic. refl)
   expr_means names (tree.Read name) = name_means name (value_named names name)
   expr_means names (tree.Element name index) = tt
   expr_means names tree.Pop = tt
@@ -244,8 +245,8 @@ module _ (constants : List (List ℕ × ℤ)) where
     where
       by_value : (r : Result ℤ Cause) → constant_value made ≡ r
           → Gives (Means constants e) (value_given r)
-      by_value (Ok number) is = λ port traffic. h.1 port traffic
-          ∙ constant_value_Ok port made (constant_store constants traffic) number h.0 is
+      by_value (Ok number) is = λ setting traffic. h.1 setting traffic
+          ∙ constant_value_Ok setting made (constant_store constants traffic) number h.0 is
       by_value (Err cause) is = tt
 
   pub number_gives : (names : TypedNames) (e : tree.Expr)
@@ -277,9 +278,6 @@ module _ (constants : List (List ℕ × ℤ)) where
       then_is (expr_as context names Int e) (λ v. value_given (constant_value v)) made is
       ∙ ap value_given (one_value made means)
     where
-      port : Port
-      port = record { front = []; ahead = []; room = 0 }
-
       store : Store
       store = constant_store constants
           (record { popped = 0; pushes = []; words = []; turns = 0 })
@@ -292,8 +290,8 @@ module _ (constants : List (List ℕ × ℤ)) where
 
       one_value : (made : tree.Expr) → MeansAs e made → constant_value made ≡ Ok number
       one_value made means = by_value (constant_value made)
-          (sym (constant_means port made store means.0)
-          ∙ sym (means.1 port store.traffic) ∙ h.1 port store.traffic)
+          (sym (constant_means alone made store means.0)
+          ∙ sym (means.1 alone store.traffic) ∙ h.1 alone store.traffic)
 
   pub walk_gives_number : (names : TypedNames) (e : tree.Expr) (number : ℤ)
       → (number_resolved constants names e ≡ Ok number) ↔ HasNumber constants names e number

@@ -1,5 +1,6 @@
 -- The code of a text prints just where it does.
-use Rattle.std.proofs.Common.{◌≡◌, ℕ, zero, suc, ◌+◌, Bool, true, false, ◌||◌, List, [], ◌∷◌}
+use Rattle.std.proofs.Common.{◌≡◌, ℕ, zero, suc, ◌+◌, Bool, true, false, ◌||◌, pos, List, []}
+use Rattle.std.proofs.Common.{◌∷◌}
 use Rattle.std.proofs.Common.{Option, Some, None, Result, Ok, Err, refl, sym, ap, ◌∙◌}
 use Rattle.std.specs.Prelude.{unwrap_or}
 use Rattle.strc_syntax.specs.Tree as tree
@@ -20,19 +21,21 @@ use Rattle.strc_instructions.specs.Running.{WantsOnlyWords}
 use Rattle.strc_semantics.specs.Filters.{Filter, stmt_prints, stmts_print, body_block}
 use Rattle.strc_semantics.specs.Filters.{body_prints}
 use Rattle.strc_semantics.specs.Firing.{assigned_value}
-use Rattle.strc_semantics.specs.Scoping.{Scope, cells_of, total, slot_of, size_of, names_after}
-use Rattle.strc_code.specs.Nodes.{Nodes, End, Act, Choice, Loop, before, inst_prints}
-use Rattle.strc_code.specs.Nodes.{nodes_print}
+use Rattle.strc_semantics.specs.Scoping.{Scope, answer_name, cells_of, total, slot_of, size_of}
+use Rattle.strc_semantics.specs.Scoping.{names_after}
+use Rattle.strc_code.specs.Nodes.{Nodes, End, Act, Choice, Loop, Call, before}
+use Rattle.strc_code.specs.Nodes.{inst_prints, nodes_print}
 use Rattle.strc_code.specs.Lowering.{unless_there, variable_slot, alias_slot, writes_no_variable}
 use Rattle.strc_code.specs.Lowering.{one, unary_step, binary_step, step_nodes, element_step_nodes}
-use Rattle.strc_code.specs.Lowering.{binary_nodes, expr_nodes, operand_slot, operand_nodes}
+use Rattle.strc_code.specs.Lowering.{binary_nodes, argument_count, expr_nodes, arguments_nodes}
+use Rattle.strc_code.specs.Lowering.{operand_slot, operand_nodes}
 use Rattle.strc_code.specs.Lowering.{evaluation_nodes, used_nodes, compound_nodes, element_nodes}
 use Rattle.strc_code.specs.Lowering.{initial_nodes, variables_nodes, condition_nodes}
-use Rattle.strc_code.specs.Lowering.{condition_slot, stmt_nodes, stmts_nodes, body_nodes}
+use Rattle.strc_code.specs.Lowering.{held_nodes, loop_test, loop_slot, unless_answered}
+use Rattle.strc_code.specs.Lowering.{return_nodes, stmt_nodes, stmts_nodes, body_nodes}
 use Rattle.strc_code.specs.Lowering.{field_scope}
-use Rattle.strc_semantics.specs.Closed.{IsClosedStmt, AreClosed, IsClosedFilter}
+use Rattle.strc_semantics.specs.Returns.{stmt_returns}
 use Rattle.strc_work.proofs.Expressions.{by_operator}
-use Rattle.strc_code.proofs.ClosedBodies.{body_closed}
 
 -- ---- truths
 
@@ -86,6 +89,7 @@ nodes_print-before (Choice slot chosen other rest) b =
 nodes_print-before (Loop condition slot body rest) b =
     three_or (nodes_print condition) (nodes_print body) (nodes_print rest) (nodes_print b)
     (nodes_print (before rest b)) (nodes_print-before rest b)
+nodes_print-before (Call name first count into rest) b = nodes_print-before rest b
 
 -- silent code before other code
 silent-before : (a b : Nodes) → nodes_print a ≡ false → nodes_print (before a b) ≡ nodes_print b
@@ -145,65 +149,77 @@ between_silent operator left right other into free silent silent' silent'' =
     (λ o strict. ap nodes_print (strict.code left right other into free) ∙ silent'')
     operator
 
-expr_silent : (names : Scope) (e : tree.Expr) (into free : ℕ)
-    → nodes_print (expr_nodes names e into free) ≡ false
-expr_silent names (tree.Number value) into free = refl
-expr_silent names (tree.Truth value) into free = refl
-expr_silent names (tree.Read name) into free = refl
-expr_silent names (tree.Element name index) into free =
-    let o = variable_slot names index in
-    let a = expr_nodes names index free (free + 1) in
-    silent-before (unless_there o a) (one
-    (act.Load into (slot_of names name) (size_of names name) (unwrap_or o free)))
-    (unless_there_silent o a (expr_silent names index free (free + 1)))
-expr_silent names tree.Pop into free = refl
-expr_silent names (tree.Peek index) into free =
-    let o = variable_slot names index in
-    let a = expr_nodes names index free (free + 1) in
-    silent-before (unless_there o a) (one (act.Peek into (unwrap_or o free)))
-    (unless_there_silent o a (expr_silent names index free (free + 1)))
-expr_silent names (tree.Call name arguments) into free = refl
-expr_silent names (tree.Group inner) into free = expr_silent names inner into free
-expr_silent names (tree.Unary operator operand) into free =
-    let o = variable_slot names operand in
-    let a = expr_nodes names operand free (free + 1) in
-    let last = unary_step operator into (unwrap_or o free) in
-    silent-before (unless_there o a) (one last)
-    (unless_there_silent o a (expr_silent names operand free (free + 1)))
-    ∙ unary_silent operator into (unwrap_or o free)
-expr_silent names (tree.Step operator name) into free =
-    step_silent operator (slot_of names name) into free
-expr_silent names (tree.StepElement operator name index) into free =
-    let o = variable_slot names index in
-    let a = expr_nodes names index free (free + 1) in
-    silent-before (unless_there o a) (element_step_nodes operator (slot_of names name)
-    (size_of names name) (unwrap_or o free) into (free + 1))
-    (unless_there_silent o a (expr_silent names index free (free + 1)))
-expr_silent names (tree.Binary operator left right) into free =
-    let o = alias_slot names (writes_no_variable right) left in
-    let p = variable_slot names right in
-    let a = expr_nodes names left free (free + 1) in
-    let b = expr_nodes names right (free + 1) (free + 1 + 1) in
-    let last = one (binary_step operator into (unwrap_or o free) (unwrap_or p (free + 1))) in
-    let other = before (unless_there o a) (before (unless_there p b) last) in
-    let other_silent : nodes_print other ≡ false =
-    silent-before (unless_there o a) (before (unless_there p b) last)
-    (unless_there_silent o a (expr_silent names left free (free + 1)))
-    ∙ silent-before (unless_there p b) last
-    (unless_there_silent p b (expr_silent names right (free + 1) (free + 1 + 1)))
-    ∙ binary_silent operator into (unwrap_or o free) (unwrap_or p (free + 1)) in
-    between_silent operator a (expr_nodes names right free (free + 1)) other into free
-    (expr_silent names left free (free + 1))
-    (expr_silent names right free (free + 1)) other_silent
-expr_silent names (tree.Conditional condition chosen other) into free =
-    let o = variable_slot names condition in
-    let a = expr_nodes names condition free (free + 1) in
-    let b = expr_nodes names chosen into free in
-    let c = expr_nodes names other into free in
-    silent-before (unless_there o a) (Choice (unwrap_or o free) b c End)
-    (unless_there_silent o a (expr_silent names condition free (free + 1)))
-    ∙ two_silent (nodes_print b) (nodes_print c) false (expr_silent names chosen into free)
-    (expr_silent names other into free)
+mutual
+  expr_silent : (names : Scope) (e : tree.Expr) (into free : ℕ)
+      → nodes_print (expr_nodes names e into free) ≡ false
+  expr_silent names (tree.Number value) into free = refl
+  expr_silent names (tree.Truth value) into free = refl
+  expr_silent names (tree.Read name) into free = refl
+  expr_silent names (tree.Element name index) into free =
+      let o = variable_slot names index in
+      let a = expr_nodes names index free (free + 1) in
+      silent-before (unless_there o a) (one
+      (act.Load into (slot_of names name) (size_of names name) (unwrap_or o free)))
+      (unless_there_silent o a (expr_silent names index free (free + 1)))
+  expr_silent names tree.Pop into free = refl
+  expr_silent names (tree.Peek index) into free =
+      let o = variable_slot names index in
+      let a = expr_nodes names index free (free + 1) in
+      silent-before (unless_there o a) (one (act.Peek into (unwrap_or o free)))
+      (unless_there_silent o a (expr_silent names index free (free + 1)))
+  expr_silent names (tree.Call name arguments) into free =
+      silent-before (arguments_nodes names arguments free)
+      (Call name free (argument_count arguments) into End)
+      (arguments_silent names arguments free)
+  expr_silent names (tree.Group inner) into free = expr_silent names inner into free
+  expr_silent names (tree.Unary operator operand) into free =
+      let o = variable_slot names operand in
+      let a = expr_nodes names operand free (free + 1) in
+      let last = unary_step operator into (unwrap_or o free) in
+      silent-before (unless_there o a) (one last)
+      (unless_there_silent o a (expr_silent names operand free (free + 1)))
+      ∙ unary_silent operator into (unwrap_or o free)
+  expr_silent names (tree.Step operator name) into free =
+      step_silent operator (slot_of names name) into free
+  expr_silent names (tree.StepElement operator name index) into free =
+      let o = variable_slot names index in
+      let a = expr_nodes names index free (free + 1) in
+      silent-before (unless_there o a) (element_step_nodes operator (slot_of names name)
+      (size_of names name) (unwrap_or o free) into (free + 1))
+      (unless_there_silent o a (expr_silent names index free (free + 1)))
+  expr_silent names (tree.Binary operator left right) into free =
+      let o = alias_slot names (writes_no_variable right) left in
+      let p = variable_slot names right in
+      let a = expr_nodes names left free (free + 1) in
+      let b = expr_nodes names right (free + 1) (free + 1 + 1) in
+      let last = one (binary_step operator into (unwrap_or o free) (unwrap_or p (free + 1))) in
+      let other = before (unless_there o a) (before (unless_there p b) last) in
+      let other_silent : nodes_print other ≡ false =
+      silent-before (unless_there o a) (before (unless_there p b) last)
+      (unless_there_silent o a (expr_silent names left free (free + 1)))
+      ∙ silent-before (unless_there p b) last
+      (unless_there_silent p b (expr_silent names right (free + 1) (free + 1 + 1)))
+      ∙ binary_silent operator into (unwrap_or o free) (unwrap_or p (free + 1)) in
+      between_silent operator a (expr_nodes names right free (free + 1)) other into free
+      (expr_silent names left free (free + 1))
+      (expr_silent names right free (free + 1)) other_silent
+  expr_silent names (tree.Conditional condition chosen other) into free =
+      let o = variable_slot names condition in
+      let a = expr_nodes names condition free (free + 1) in
+      let b = expr_nodes names chosen into free in
+      let c = expr_nodes names other into free in
+      silent-before (unless_there o a) (Choice (unwrap_or o free) b c End)
+      (unless_there_silent o a (expr_silent names condition free (free + 1)))
+      ∙ two_silent (nodes_print b) (nodes_print c) false (expr_silent names chosen into free)
+      (expr_silent names other into free)
+
+  arguments_silent : (names : Scope) (arguments : tree.Arguments) (free : ℕ)
+      → nodes_print (arguments_nodes names arguments free) ≡ false
+  arguments_silent names tree.NoArgument free = refl
+  arguments_silent names (tree.Argument first rest) free =
+      silent-before (expr_nodes names first free (free + 1))
+      (arguments_nodes names rest (free + 1)) (expr_silent names first free (free + 1))
+      ∙ arguments_silent names rest (free + 1)
 
 -- ---- statements
 
@@ -237,7 +253,8 @@ evaluation_silent names (tree.Element name index) =
     expr_silent names (tree.Element name index) (total names) (total names + 1)
 evaluation_silent names (tree.Peek index) =
     expr_silent names (tree.Peek index) (total names) (total names + 1)
-evaluation_silent names (tree.Call name arguments) = refl
+evaluation_silent names (tree.Call name arguments) =
+    expr_silent names (tree.Call name arguments) (total names) (total names + 1)
 evaluation_silent names (tree.StepElement operator name index) =
     expr_silent names (tree.StepElement operator name index) (total names) (total names + 1)
 evaluation_silent names (tree.Conditional condition chosen other) =
@@ -295,79 +312,107 @@ element_silent names name index assign.Divide value free =
 element_silent names name index assign.Remainder value free =
     compound_silent names name index binary.Remainder value free
 
+loop_test_silent : (names : Scope) (returns : Bool) (condition : Option tree.Expr)
+    → nodes_print (loop_test names returns condition) ≡ false
+loop_test_silent names false condition = condition_silent names condition
+loop_test_silent names true None = refl
+loop_test_silent names true (Some condition) =
+    one_of_two false (nodes_print (held_nodes names (Some condition))) refl
+    ∙ expr_silent names condition (total names) (total names + 1)
+
+unless_answered_print : (names : Scope) (returns : Bool) (code : Nodes)
+    → nodes_print (unless_answered names returns code) ≡ nodes_print code
+unless_answered_print names false code = refl
+unless_answered_print names true code = one_of_two false (nodes_print code) refl
+
+return_silent : (names : Scope) (value : Option tree.Expr)
+    → nodes_print (return_nodes names value) ≡ false
+return_silent names None = refl
+return_silent names (Some value) =
+    let slot = slot_of names answer_name in
+    silent-before (expr_nodes names value (slot + 1) (total names))
+    (one (act.Const slot (pos 1)))
+    (expr_silent names value (slot + 1) (total names))
+
 mutual
-  stmt_print : (names : Scope) (s : tree.Stmt) → IsClosedStmt names s
+  stmt_print : (names : Scope) (s : tree.Stmt)
       → nodes_print (stmt_nodes names s) ≡ stmt_prints s
-  stmt_print names tree.Empty closed = refl
-  stmt_print names (tree.Compose statement) closed = refl
-  stmt_print names (tree.Block body) closed = stmts_print_is names body closed
-  stmt_print names (tree.Declare kind variables) closed =
+  stmt_print names tree.Empty = refl
+  stmt_print names (tree.Compose statement) = refl
+  stmt_print names (tree.Block body) = stmts_print_is names false body
+  stmt_print names (tree.Declare kind variables) =
       variables_silent names (cells_of kind) variables
-  stmt_print names (tree.Evaluate value) closed = evaluation_silent names value
-  stmt_print names (tree.Assign name operator value) closed =
+  stmt_print names (tree.Evaluate value) = evaluation_silent names value
+  stmt_print names (tree.Assign name operator value) =
       expr_silent names (assigned_value name operator value) (slot_of names name) (total names)
-  stmt_print names (tree.AssignElement name index operator value) closed =
+  stmt_print names (tree.AssignElement name index operator value) =
       let may_alias = writes_no_variable value in
       let from = operand_slot names may_alias index (total names) in
       silent-before (operand_nodes names may_alias index (total names))
       (element_nodes names name from operator value (total names + 1))
       (operand_silent names may_alias index (total names))
       ∙ element_silent names name from operator value (total names + 1)
-  stmt_print names (tree.If condition chosen) closed =
+  stmt_print names (tree.If condition chosen) =
       let b = stmt_nodes names chosen in
       silent-before (operand_nodes names true condition (total names))
       (Choice (operand_slot names true condition (total names)) b End End)
       (operand_silent names true condition (total names))
       ∙ first_of_two (nodes_print b) false refl
-      ∙ stmt_print names chosen closed.1
-  stmt_print names (tree.IfElse condition chosen other) closed =
+      ∙ stmt_print names chosen
+  stmt_print names (tree.IfElse condition chosen other) =
       let b = stmt_nodes names chosen in
       let c = stmt_nodes names other in
       silent-before (operand_nodes names true condition (total names))
       (Choice (operand_slot names true condition (total names)) b c End)
       (operand_silent names true condition (total names))
       ∙ both_of_two (nodes_print b) (nodes_print c)
-      ∙ ap (λ t. t || nodes_print c) (stmt_print names chosen closed.1)
-      ∙ ap (λ t. stmt_prints chosen || t) (stmt_print names other closed.2)
-  stmt_print names (tree.While condition body) closed =
-      let a = condition_nodes names (Some condition) in
+      ∙ ap (λ t. t || nodes_print c) (stmt_print names chosen)
+      ∙ ap (λ t. stmt_prints chosen || t) (stmt_print names other)
+  stmt_print names (tree.While condition body) =
+      let returns = stmt_returns body in
+      let a = loop_test names returns (Some condition) in
       let b = stmt_nodes names body in
-      one_of_two (nodes_print a) (nodes_print b) (condition_silent names (Some condition))
-      ∙ stmt_print names body closed.1
-  stmt_print names (tree.For first condition step body) closed =
+      one_of_two (nodes_print a) (nodes_print b) (loop_test_silent names returns (Some condition))
+      ∙ stmt_print names body
+  stmt_print names (tree.For first condition step body) =
       let inner = names_after names first in
+      let returns = stmt_returns body in
       let a = stmt_nodes names first in
       let b = stmt_nodes inner body in
       let c = stmt_nodes inner step in
-      let d = condition_nodes inner condition in
-      let turn = before b c in
-      nodes_print-before a (Loop d (condition_slot inner condition) turn End)
+      let c' = unless_answered inner returns c in
+      let d = loop_test inner returns condition in
+      let turn = before b c' in
+      nodes_print-before a (Loop d (loop_slot inner returns condition) turn End)
       ∙ ap (λ t. nodes_print a || t) (one_of_two (nodes_print d) (nodes_print turn)
-      (condition_silent inner condition) ∙ nodes_print-before b c
+      (loop_test_silent inner returns condition) ∙ nodes_print-before b c'
+      ∙ ap (λ t. nodes_print b || t) (unless_answered_print inner returns c)
       ∙ or_turned (nodes_print b) (nodes_print c))
-      ∙ ap (λ t. t || (nodes_print c || nodes_print b)) (stmt_print names first closed.0)
-      ∙ ap (λ t. stmt_prints first || (t || nodes_print b)) (stmt_print inner step closed.2)
-      ∙ ap (λ t. stmt_prints first || (stmt_prints step || t)) (stmt_print inner body closed.3)
-  stmt_print names (tree.Push value) closed = used_print names value act.Push
-  stmt_print names (tree.Print value) closed = used_print names value act.Print
-  stmt_print names (tree.Println value) closed = used_print names value act.Println
-  stmt_print names (tree.Return value) closed = refl
+      ∙ ap (λ t. t || (nodes_print c || nodes_print b)) (stmt_print names first)
+      ∙ ap (λ t. stmt_prints first || (t || nodes_print b)) (stmt_print inner step)
+      ∙ ap (λ t. stmt_prints first || (stmt_prints step || t)) (stmt_print inner body)
+  stmt_print names (tree.Push value) = used_print names value act.Push
+  stmt_print names (tree.Print value) = used_print names value act.Print
+  stmt_print names (tree.Println value) = used_print names value act.Println
+  stmt_print names (tree.Return value) = return_silent names value
 
-  stmts_print_is : (names : Scope) (b : tree.Stmts) → AreClosed names b
-      → nodes_print (stmts_nodes names b) ≡ stmts_print b
-  stmts_print_is names tree.Done closed = refl
-  stmts_print_is names (tree.Then first rest) closed =
-      let rest_code = stmts_nodes (names_after names first) rest in
-      nodes_print-before (stmt_nodes names first) rest_code
-      ∙ ap (λ t. t || nodes_print rest_code) (stmt_print names first closed.0)
-      ∙ ap (λ t. stmt_prints first || t) (stmts_print_is (names_after names first) rest closed.1)
+  pub stmts_print_is : (names : Scope) (returns : Bool) (b : tree.Stmts)
+      → nodes_print (stmts_nodes names returns b) ≡ stmts_print b
+  stmts_print_is names returns tree.Done = refl
+  stmts_print_is names returns (tree.Then first rest) =
+      let code = stmt_nodes names first in
+      let rest_code = stmts_nodes (names_after names first) (returns || stmt_returns first) rest in
+      nodes_print-before (unless_answered names returns code) rest_code
+      ∙ ap (λ t. t || nodes_print rest_code)
+      (unless_answered_print names returns code ∙ stmt_print names first)
+      ∙ ap (λ t. stmt_prints first || t)
+      (stmts_print_is (names_after names first) (returns || stmt_returns first) rest)
 
 -- a body's code prints just where its text does
-pub body_print : (body : Body) (filter : Filter) → IsClosedFilter filter
+pub body_print : (body : Body) (filter : Filter)
     → nodes_print (body_nodes body filter) ≡ stmts_print (body_block body filter.members)
-body_print body filter closed =
-    stmts_print_is (field_scope filter) (body_block body filter.members)
-    (body_closed body (field_scope filter) filter.members closed)
+body_print body filter =
+    stmts_print_is (field_scope filter) false (body_block body filter.members)
 
 -- out of memory at code that prints where other code does
 wants_also : (prints prints' : Bool) → (prints ≡ true → prints' ≡ true)
@@ -379,9 +424,9 @@ wants_also prints prints' more (Err halt.NoMemory) wants = more wants
 
 -- only a body that prints can run out of memory when it is fired
 pub body_wants : (body : Body) (filter : Filter) (code : Nodes) (result : Result (Unit {0}) Halt)
-    → IsClosedFilter filter → code ≡ body_nodes body filter
+    → code ≡ body_nodes body filter
     → WantsOnlyWords (nodes_print code) result → WantsOnlyWords (body_prints body filter) result
-body_wants body filter code result closed code_is wants =
+body_wants body filter code result code_is wants =
     wants_also (nodes_print code) (body_prints body filter)
-    (λ prints. sym (body_print body filter closed) ∙ sym (ap nodes_print code_is) ∙ prints)
+    (λ prints. sym (body_print body filter) ∙ sym (ap nodes_print code_is) ∙ prints)
     result wants

@@ -1,19 +1,23 @@
 -- Where code leads: a machine that is where a store is.
-use Rattle.std.proofs.Common.{◌≡◌, ℕ, ◌-◌, ◌≤◌, ℤ, List, ◌++◌, length, drop, Result, refl, sym, ap}
+use Rattle.std.proofs.Common.{◌≡◌, ℕ, ◌-◌, ◌≤◌, Bool, true, false, ℤ, List, ◌++◌, length, drop}
+use Rattle.std.proofs.Common.{Result, refl, sym, ap}
 use Rattle.std.proofs.Common.{◌∙◌, subst, arith, append_assoc}
-use Rattle.std.proofs.lemmas.List.{drop-map}
 use Rattle.strc_syntax.specs.Tree as tree
 use Rattle.strc_semantics.specs.declared.fault.Cause.{Cause}
-use Rattle.strc_semantics.specs.Scoping.{Scope, total, names_after}
-use Rattle.strc_semantics.specs.Closed.{IsClosedStmt, AreClosed}
-use Rattle.strc_semantics.specs.Firing.{Port, Variables, Store, block_left, inside, stmt_done}
-use Rattle.strc_semantics.specs.Firing.{stmts_done}
-use Rattle.strc_code.specs.Nodes.{Machine, Nodes, nodes_done, nodes_room}
+use Rattle.strc_semantics.specs.Arithmetic.{is_true}
+use Rattle.strc_semantics.specs.Scoping.{Scope, answer_name, total, names_after, slot_of}
+use Rattle.strc_semantics.specs.Returns.{stmt_hides, stmts_hide}
+use Rattle.strc_semantics.specs.Closed.{IsNamed, IsClosedStmt, AreClosed}
+use Rattle.strc_semantics.specs.Firing.{Setting, Variables, Store, block_left, inside}
+use Rattle.strc_semantics.specs.Firing.{has_returned, stmt_done, stmts_done}
+use Rattle.strc_code.specs.Nodes.{Machine, Nodes, slot_value, nodes_done, nodes_room}
 use Rattle.strc_code.specs.Lowering.{stmt_nodes, stmts_nodes}
 use Rattle.strc_semantics.proofs.Growth.{IsBaseOf, base_of_itself, base_of_after, drop_inner}
-use Rattle.strc_work.proofs.Variables.{scope_of, Holds, Holds-drop, length-scope_of}
+use Rattle.strc_work.proofs.Variables.{scope_of, Holds, Holds-drop, length-scope_of, scope_of-drop}
 use Rattle.strc_work.proofs.Related.{Related, weaker_related, map_related}
-use Rattle.strc_work.proofs.Expressions.{IsInSlot, Ready, machine_at}
+use Rattle.strc_work.proofs.Standing.{Stands}
+use Rattle.strc_work.proofs.Expressions.{IsInSlot, Ready, machine_at, named_value}
+use Rattle.strc_work.proofs.Answered.{Answers, AnswersAll}
 
 -- the machine is where the store is, among these names
 pub record Reaches (names : Scope) (size : ℕ) (given : Store) (after : Machine) : Type 0 where
@@ -30,17 +34,50 @@ pub record ReachesOn (names : Scope) (size : ℕ) (given : Store) (after : Machi
   pub holds : Holds given.variables after.slots
   pub same : length after.slots ≡ size
 
-abbrev pub RunsStmt : Port → tree.Stmt → Type 0
-RunsStmt port s = (names : Scope) (store : Store) (slots : List ℤ) → IsClosedStmt names s
-    → Ready names (total names) store slots → nodes_room (stmt_nodes names s) ≤ length slots
-    → Related (Reaches (names_after names s) (length slots)) (stmt_done port s store)
-    (nodes_done port (stmt_nodes names s) (machine_at slots store))
+-- each name of a statement is declared, nothing hides the answer, and a `return` is an answer
+abbrev pub IsRunnable : Setting → Scope → tree.Stmt → Type 0
+IsRunnable setting names s =
+    IsClosedStmt names s × (stmt_hides s ≡ false) × Answers setting names s
 
-abbrev pub RunsStmts : Port → tree.Stmts → Type 0
-RunsStmts port b = (names : Scope) (store : Store) (slots : List ℤ) → AreClosed names b
-    → Ready names (total names) store slots → nodes_room (stmts_nodes names b) ≤ length slots
-    → Related (ReachesOn names (length slots)) (stmts_done port b store)
-    (nodes_done port (stmts_nodes names b) (machine_at slots store))
+abbrev pub AreRunnable : Setting → Scope → (returns : Bool) → tree.Stmts → Type 0
+AreRunnable setting names returns b =
+    AreClosed names b × (stmts_hide b ≡ false) × AnswersAll setting names returns b
+
+abbrev pub RunsStmt : Setting → tree.Stmt → Type 0
+RunsStmt setting s = (names : Scope) (store : Store) (slots : List ℤ) → IsRunnable setting names s
+    → Stands setting names → Ready names (total names) store slots
+    → nodes_room (stmt_nodes names s) ≤ length slots
+    → Related (Reaches (names_after names s) (length slots)) (stmt_done setting s store)
+    (nodes_done setting (stmt_nodes names s) (machine_at slots store))
+
+-- there is no answer yet
+abbrev pub IsUnanswered : Scope → Store → Type 0
+IsUnanswered names store = IsNamed names answer_name × (has_returned store ≡ false)
+
+-- where a `return` may stand before them it has not been run
+abbrev pub RunsStmts : Setting → tree.Stmts → Type 0
+RunsStmts setting b = (returns : Bool) (names : Scope) (store : Store) (slots : List ℤ)
+    → AreRunnable setting names returns b → Stands setting names
+    → Ready names (total names) store slots → (returns ≡ true → IsUnanswered names store)
+    → nodes_room (stmts_nodes names returns b) ≤ length slots
+    → Related (ReachesOn names (length slots)) (stmts_done setting b store)
+    (nodes_done setting (stmts_nodes names returns b) (machine_at slots store))
+
+-- the answer's slot says whether there is an answer
+pub answer_tested : (names : Scope) (size : ℕ) (given : Store) (m : Machine)
+    → Reaches names size given m → IsNamed names answer_name
+    → is_true (slot_value m (slot_of names answer_name)) ≡ has_returned given
+answer_tested names size given m reaches named =
+    let same = reaches.same in
+    let roomy = reaches.roomy in
+    let ready : Ready names (total names) given m.slots =
+    record {
+      names_are = reaches.names_are;
+      holds = reaches.holds;
+      above = omega arith;
+      roomy = omega arith;
+    } in
+    ap is_true (named_value names (total names) given m.slots answer_name ready named)
 
 pub few : (names : Scope) (variables : Variables) → scope_of variables ≡ names
     → total (scope_of variables) ≡ total names
@@ -83,8 +120,8 @@ left_reaches names slots store inner after ready reaches =
     ∙ ap (λ k. length (scope_of inner.variables) - k) count in
     record {
       traffic = reaches.traffic;
-      names_are = sym (drop-map (λ (v : List ℕ × List ℤ). record { 0 = v.0; 1 = length v.1 }) n
-          inner.variables) ∙ ap (λ k. drop k (scope_of inner.variables)) few_inner
+      names_are = scope_of-drop n inner.variables
+          ∙ ap (λ k. drop k (scope_of inner.variables)) few_inner
           ∙ drop_inner names (scope_of inner.variables) reaches.base;
       holds = Holds-drop inner.variables after.slots n reaches.holds;
       same = reaches.same;
@@ -110,17 +147,21 @@ reaches_on names size s given after reaches = record {
 }
 
 -- the rest of a block, from where its first statement leads
-pub rest_runs : (port : Port) (first : tree.Stmt) (rest : tree.Stmts) → RunsStmts port rest
-    → (names : Scope) (slots : List ℤ) (given : Store) (m : Machine)
-    → AreClosed (names_after names first) rest
-    → nodes_room (stmts_nodes (names_after names first) rest) ≤ length slots
+pub rest_runs : (setting : Setting) (first : tree.Stmt) (rest : tree.Stmts) → RunsStmts setting rest
+    → (returns : Bool) (names : Scope) (slots : List ℤ) (given : Store) (m : Machine)
+    → AreRunnable setting (names_after names first) returns rest
+    → Stands setting (names_after names first)
+    → (returns ≡ true → IsUnanswered (names_after names first) given)
+    → nodes_room (stmts_nodes (names_after names first) returns rest) ≤ length slots
     → Reaches (names_after names first) (length slots) given m
-    → Related (ReachesOn names (length slots)) (stmts_done port rest given)
-    (nodes_done port (stmts_nodes (names_after names first) rest) m)
-rest_runs port first rest run names slots given m closed room reaches =
+    → Related (ReachesOn names (length slots)) (stmts_done setting rest given)
+    (nodes_done setting (stmts_nodes (names_after names first) returns rest) m)
+rest_runs setting first rest run returns names slots given m runnable stands unanswered room
+    reaches =
     let names' = names_after names first in
     let same = reaches.same in
     let roomy = reaches.roomy in
+    let code = stmts_nodes names' returns rest in
     let ready : Ready names' (total names') given m.slots =
     record {
       names_are = reaches.names_are;
@@ -129,14 +170,15 @@ rest_runs port first rest run names slots given m closed room reaches =
           omega arith;
       roomy = omega arith;
     } in
-    let room' : nodes_room (stmts_nodes names' rest) ≤ length m.slots = omega arith in
+    let room' : nodes_room code ≤ length m.slots = omega arith in
     let m_is : m ≡ machine_at m.slots given =
     ap (λ t. record { slots = m.slots; traffic = t }) reaches.traffic in
-    subst (λ n. Related (ReachesOn names (length slots)) (stmts_done port rest given)
-    (nodes_done port (stmts_nodes names' rest) n)) (sym m_is)
+    subst (λ n. Related (ReachesOn names (length slots)) (stmts_done setting rest given)
+    (nodes_done setting code n)) (sym m_is)
     (weaker_related (ReachesOn names' (length m.slots)) (ReachesOn names (length slots))
-    (stmts_done port rest given) (nodes_done port (stmts_nodes names' rest)
-    (machine_at m.slots given)) (run names' given m.slots closed ready room')
+    (stmts_done setting rest given) (nodes_done setting code
+    (machine_at m.slots given)) (run returns names' given m.slots runnable stands ready unanswered
+    room')
     (λ store after r. record {
       traffic = r.traffic;
       base = base_of_more names names' (scope_of store.variables)
@@ -146,14 +188,14 @@ rest_runs port first rest run names slots given m closed room reaches =
     }))
 
 -- code after other code, from where that leads
-pub go_on : (port : Port) (code : Nodes) (names names' : Scope) (size : ℕ)
+pub go_on : (setting : Setting) (code : Nodes) (names names' : Scope) (size : ℕ)
     (does : Store → Result Store Cause) → ((store : Store) (slots : List ℤ) → length slots ≡ size
     → Ready names (total names) store slots
     → Related (Reaches names' (length slots)) (does store)
-    (nodes_done port code (machine_at slots store))) → (given : Store) (m : Machine)
+    (nodes_done setting code (machine_at slots store))) → (given : Store) (m : Machine)
     → Reaches names size given m → Related (Reaches names' size) (does given)
-    (nodes_done port code m)
-go_on port code names names' size does run given m reaches =
+    (nodes_done setting code m)
+go_on setting code names names' size does run given m reaches =
     let same = reaches.same in
     let roomy = reaches.roomy in
     let ready : Ready names (total names) given m.slots =
@@ -166,30 +208,33 @@ go_on port code names names' size does run given m reaches =
     } in
     let m_is : m ≡ machine_at m.slots given =
     ap (λ t. record { slots = m.slots; traffic = t }) reaches.traffic in
-    subst (λ n. Related (Reaches names' size) (does given) (nodes_done port code n)) (sym m_is)
+    subst (λ n. Related (Reaches names' size) (does given) (nodes_done setting code n)) (sym m_is)
     (subst (λ n. Related (Reaches names' n) (does given)
-    (nodes_done port code (machine_at m.slots given))) same (run given m.slots same ready))
+    (nodes_done setting code (machine_at m.slots given))) same (run given m.slots same ready))
 
 -- a statement in a scope of its own
-pub inside_runs : (port : Port) (s : tree.Stmt) → RunsStmt port s
-    → (names : Scope) (store : Store) (slots : List ℤ) → IsClosedStmt names s
-    → Ready names (total names) store slots → nodes_room (stmt_nodes names s) ≤ length slots
-    → Related (Reaches names (length slots)) (inside (stmt_done port s) store)
-    (nodes_done port (stmt_nodes names s) (machine_at slots store))
-inside_runs port s run names store slots closed ready room =
+pub inside_runs : (setting : Setting) (s : tree.Stmt) → RunsStmt setting s
+    → (names : Scope) (store : Store) (slots : List ℤ) → IsRunnable setting names s
+    → Stands setting names → Ready names (total names) store slots
+    → nodes_room (stmt_nodes names s) ≤ length slots
+    → Related (Reaches names (length slots)) (inside (stmt_done setting s) store)
+    (nodes_done setting (stmt_nodes names s) (machine_at slots store))
+inside_runs setting s run names store slots closed stands ready room =
     map_related (Reaches (names_after names s) (length slots)) (Reaches names (length slots))
-    (block_left store) (stmt_done port s store)
-    (nodes_done port (stmt_nodes names s) (machine_at slots store))
-    (run names store slots closed ready room) (λ inner after reaches.
+    (block_left store) (stmt_done setting s store)
+    (nodes_done setting (stmt_nodes names s) (machine_at slots store))
+    (run names store slots closed stands ready room) (λ inner after reaches.
     left_reaches names slots store inner after ready
     (reaches_on names (length slots) s inner after reaches))
 
 -- the same, from where other code has led
-pub inside_goes_on : (port : Port) (s : tree.Stmt) → RunsStmt port s → (names : Scope) (size : ℕ)
-    → IsClosedStmt names s → nodes_room (stmt_nodes names s) ≤ size → (given : Store) (m : Machine)
-    → Reaches names size given m → Related (Reaches names size) (inside (stmt_done port s) given)
-    (nodes_done port (stmt_nodes names s) m)
-inside_goes_on port s run names size closed room given m reaches =
-    go_on port (stmt_nodes names s) names names size (inside (stmt_done port s))
-    (λ store slots same ready. inside_runs port s run names store slots closed ready
+pub inside_goes_on : (setting : Setting) (s : tree.Stmt) → RunsStmt setting s → (names : Scope)
+    (size : ℕ)
+    → IsRunnable setting names s → Stands setting names → nodes_room (stmt_nodes names s) ≤ size
+    → (given : Store) (m : Machine)
+    → Reaches names size given m → Related (Reaches names size) (inside (stmt_done setting s) given)
+    (nodes_done setting (stmt_nodes names s) m)
+inside_goes_on setting s run names size closed stands room given m reaches =
+    go_on setting (stmt_nodes names s) names names size (inside (stmt_done setting s))
+    (λ store slots same ready. inside_runs setting s run names store slots closed stands ready
     (omega arith)) given m reaches

@@ -1,10 +1,9 @@
 -- The walk accepts declared types, statements and blocks exactly where they are well formed.
 use Rattle.std.proofs.Common.{◌≡◌, ◌↔◌, ℕ, ℤ, pos, ◌≤ℤ◌, Bool, true, false, not, ◌||◌, cond, List}
-use Rattle.std.proofs.Common.{[], ◌∷◌, length, Option, Result, Ok, Err, IsOk, refl, sym}
+use Rattle.std.proofs.Common.{[], ◌∷◌, length, Option, Some, None, Result, Ok, Err, IsOk, refl, sym}
 use Rattle.std.proofs.Common.{ap, ◌∙◌, subst, arith}
 use Rattle.std.proofs.lemmas.Int.{ints}
 use Rattle.std.specs.Int.RustNames.{int_lt}
-use Rattle.strc_base.specs.Names.{has_name}
 use Rattle.strc_base.specs.Results.{result_and_then}
 use Rattle.strc_syntax.specs.Tree as tree
 use Rattle.strc_syntax.specs.declared.tree.AssignOperator.{AssignOperator}
@@ -13,24 +12,30 @@ use Rattle.strc_semantics.specs.declared.fault.Cause.TheVariants.{Index}
 use Rattle.strc_check.specs.declared.error.LowerError.{LowerError}
 use Rattle.strc_check.specs.declared.error.LowerErrorKind.TheVariants as refused
 use Rattle.strc_check.specs.declared.type_rules.TheConstants.{LENGTH_LIMIT}
-use Rattle.strc_check.specs.declared.types.ValueType.{ValueType}
-use Rattle.strc_check.specs.declared.types.ValueType.TheVariants.{Int, Boolean, Array}
-use Rattle.strc_check.specs.Typing.{TypedNames, same_type, type_of, names_after, block_names}
+use Rattle.strc_semantics.specs.declared.types.ValueType.{ValueType}
+use Rattle.strc_semantics.specs.declared.types.ValueType.TheVariants.{Int, Boolean, Array}
+use Rattle.strc_semantics.specs.Typing.{TypedNames, same_type, type_of, names_after}
 use Rattle.strc_check.specs.Resolution.{Context, Typed, ResolvedType, where_kept, write_resolved}
 use Rattle.strc_check.specs.Resolution.{array_resolved, expr_resolved, expr_as, initial_resolved}
 use Rattle.strc_check.specs.Resolution.{number_resolved, array_type, type_resolved}
-use Rattle.strc_check.specs.Resolution.{variable_resolved, variables_resolved, assigned_type}
+use Rattle.strc_check.specs.Resolution.{local_resolved, variables_resolved, assigned_type}
 use Rattle.strc_check.specs.Resolution.{assign_resolved, element_assign_resolved, given_resolved}
-use Rattle.strc_check.specs.Resolution.{stmt_resolved, stmts_resolved}
+use Rattle.strc_check.specs.Resolution.{stmt_resolved, stmts_resolved, is_taken, evaluated}
+use Rattle.strc_check.specs.Resolution.{arguments_resolved, call_given, returned_as, returned}
+use Rattle.strc_check.specs.Signatures.{given_type}
+use Rattle.strc_syntax.specs.declared.tree.HelperType.{HelperType}
 use Rattle.strc_check.proofs.ResolvingStatements.{Gives, then_gives}
 use Rattle.strc_work.specs.Expressions.{IsVariable, SeesVariable, HasType, InitialHasType}
 use Rattle.strc_work.specs.Numbers.{HasNumber}
 use Rattle.strc_work.specs.Statements.{IsLength, IsDeclarable, AreDeclared, IsAssignable}
-use Rattle.strc_work.specs.Statements.{IsWellFormed, AreWellFormed}
+use Rattle.strc_work.specs.Statements.{IsWellFormed, AreWellFormed, IsEvaluated, IsAnswer}
+use Rattle.strc_work.specs.Statements.{IsReturned}
 use Rattle.strc_work.proofs.Accepting.{kept_gives, kept_is, then_is, then_ok, any_ok, given}
 use Rattle.strc_work.proofs.Accepting.{is_ok_of, same_type_true, not_true, not_false}
 use Rattle.strc_work.proofs.TypesOfExpressions.{expr_gives, expr_accepts, expr_as_gives}
-use Rattle.strc_work.proofs.TypesOfExpressions.{expr_as_ok, initial_gives, initial_ok}
+use Rattle.strc_work.proofs.TypesOfExpressions.{expr_as_ok, initial_gives, initial_ok, CallsWell}
+use Rattle.strc_work.proofs.TypesOfExpressions.{call_gives}
+use Rattle.strc_work.proofs.TypesOfExpressions.{call_is, arguments_give, arguments_accept}
 use Rattle.strc_work.proofs.TypesOfExpressions.{write_gives, write_is, array_gives, array_is}
 use Rattle.strc_work.proofs.Numbers.{number_gives, number_is}
 
@@ -120,11 +125,11 @@ walk_accepts_type constants names kind = (
 
 variable_gives : (context : Context) (names : TypedNames) (outer : ℕ) (kind : ValueType)
     (variable : tree.Variable)
-    → Gives (λ (v : tree.Variable). (has_name (block_names outer names) variable.name ≡ false)
+    → Gives (λ (v : tree.Variable). (is_taken names outer variable.name ≡ false)
     × InitialHasType context names variable.initial kind)
-    (variable_resolved context names outer kind variable)
+    (local_resolved context names outer kind variable)
 variable_gives context names outer kind variable =
-    let there = has_name (block_names outer names) variable.name in
+    let there = is_taken names outer variable.name in
     let Q : tree.Variable → Type 0 =
     λ v. (there ≡ false) × InitialHasType context names variable.initial kind in
     let go : Option tree.Expr → Result tree.Variable LowerError =
@@ -136,11 +141,11 @@ variable_gives context names outer kind variable =
     (λ i h. (not_true there new, h)))
 
 variable_ok : (context : Context) (names : TypedNames) (outer : ℕ) (kind : ValueType)
-    (variable : tree.Variable) → has_name (block_names outer names) variable.name ≡ false
+    (variable : tree.Variable) → is_taken names outer variable.name ≡ false
     → InitialHasType context names variable.initial kind
-    → IsOk (variable_resolved context names outer kind variable)
+    → IsOk (local_resolved context names outer kind variable)
 variable_ok context names outer kind variable new h =
-    let there = has_name (block_names outer names) variable.name in
+    let there = is_taken names outer variable.name in
     let go : Option tree.Expr → Result tree.Variable LowerError =
     λ i. Ok (record { name = variable.name; initial = i }) in
     let initial = initial_resolved context names kind variable.initial in
@@ -156,9 +161,9 @@ variables_give context names outer kind (first ∷ rest) =
     let Q : List tree.Variable → Type 0 =
     λ v. AreDeclared context names outer kind (first ∷ rest) in
     let inner : TypedNames = record { 0 = first.name; 1 = kind } ∷ names in
-    then_gives (λ (v : tree.Variable). (has_name (block_names outer names) first.name ≡ false)
+    then_gives (λ (v : tree.Variable). (is_taken names outer first.name ≡ false)
     × InitialHasType context names first.initial kind) Q
-    (variable_resolved context names outer kind first)
+    (local_resolved context names outer kind first)
     (λ f. result_and_then (variables_resolved context inner outer kind rest) (λ r. Ok (f ∷ r)))
     (variable_gives context names outer kind first) (λ f h.
     then_gives (λ (v : List tree.Variable). AreDeclared context inner outer kind rest) Q
@@ -172,7 +177,7 @@ variables_ok : (context : Context) (names : TypedNames) (outer : ℕ) (kind : Va
 variables_ok context names outer kind [] h = refl
 variables_ok context names outer kind (first ∷ rest) h =
     let inner : TypedNames = record { 0 = first.name; 1 = kind } ∷ names in
-    any_ok (variable_resolved context names outer kind first)
+    any_ok (local_resolved context names outer kind first)
     (λ f. result_and_then (variables_resolved context inner outer kind rest) (λ r. Ok (f ∷ r)))
     (variable_ok context names outer kind first h.0 h.1) (λ f.
     any_ok (variables_resolved context inner outer kind rest) (λ r. Ok (f ∷ r))
@@ -313,6 +318,129 @@ number_given_ok context names may value made allowed h =
     (subst IsOk (sym (kept_is may (expr_as context names Int value) allowed))
     (expr_as_ok context names Int value h)) (λ v. refl)
 
+-- expressions that are statements
+
+alone_gives : (context : Context) (names : TypedNames) (e : tree.Expr)
+    → Gives (λ (v : tree.Expr). (kind : ValueType) × HasType context names e kind)
+    (result_and_then (expr_resolved context names e) (λ t. Ok t.value))
+alone_gives context names e =
+    then_gives (λ (t : Typed). HasType context names e t.kind)
+    (λ (v : tree.Expr). (kind : ValueType) × HasType context names e kind)
+    (expr_resolved context names e) (λ t. Ok t.value) (expr_gives context names e)
+    (λ t h. (t.kind, h))
+
+alone_ok : (context : Context) (names : TypedNames) (e : tree.Expr)
+    → (kind : ValueType) × HasType context names e kind
+    → IsOk (result_and_then (expr_resolved context names e) (λ t. Ok t.value))
+alone_ok context names e h =
+    let at = expr_accepts context names e h.0 h.1 in
+    any_ok (expr_resolved context names e) (λ t. Ok t.value)
+    (is_ok_of (expr_resolved context names e) (record { kind = h.0; value = at.0 }) at.1)
+    (λ t. refl)
+
+evaluated_gives : (context : Context) (names : TypedNames) (e : tree.Expr)
+    → Gives (λ (v : tree.Expr). IsEvaluated context names e) (evaluated context names e)
+evaluated_gives context names (tree.Call name arguments) =
+    let given = arguments_resolved context names arguments in
+    then_gives (CallsWell context names name arguments)
+    (λ (v : tree.Expr). IsEvaluated context names (tree.Call name arguments))
+    (call_given context name arguments given) (λ c. Ok c.call)
+    (call_gives context names name arguments given (arguments_give context names arguments))
+    (λ c h. ((c.kind, h.0), h.1))
+evaluated_gives context names (tree.Number value) =
+    alone_gives context names (tree.Number value)
+evaluated_gives context names (tree.Truth value) =
+    alone_gives context names (tree.Truth value)
+evaluated_gives context names (tree.Read name) =
+    alone_gives context names (tree.Read name)
+evaluated_gives context names (tree.Element name index) =
+    alone_gives context names (tree.Element name index)
+evaluated_gives context names tree.Pop =
+    alone_gives context names tree.Pop
+evaluated_gives context names (tree.Peek index) =
+    alone_gives context names (tree.Peek index)
+evaluated_gives context names (tree.Group inner) =
+    alone_gives context names (tree.Group inner)
+evaluated_gives context names (tree.Unary operator operand) =
+    alone_gives context names (tree.Unary operator operand)
+evaluated_gives context names (tree.Step operator name) =
+    alone_gives context names (tree.Step operator name)
+evaluated_gives context names (tree.StepElement operator name index) =
+    alone_gives context names (tree.StepElement operator name index)
+evaluated_gives context names (tree.Binary operator left right) =
+    alone_gives context names (tree.Binary operator left right)
+evaluated_gives context names (tree.Conditional condition chosen other) =
+    alone_gives context names (tree.Conditional condition chosen other)
+
+evaluated_ok : (context : Context) (names : TypedNames) (e : tree.Expr)
+    → IsEvaluated context names e → IsOk (evaluated context names e)
+evaluated_ok context names (tree.Call name arguments) h =
+    let given = arguments_resolved context names arguments in
+    let at = arguments_accept context names arguments h.1 in
+    any_ok (call_given context name arguments given) (λ c. Ok c.call)
+    (is_ok_of (call_given context name arguments given)
+    (record { kind = h.0.0; call = tree.Call name at.0 })
+    (call_is context name arguments given h.0.0 at.0 h.0.1 at.1)) (λ c. refl)
+evaluated_ok context names (tree.Number value) h =
+    alone_ok context names (tree.Number value) h
+evaluated_ok context names (tree.Truth value) h =
+    alone_ok context names (tree.Truth value) h
+evaluated_ok context names (tree.Read name) h =
+    alone_ok context names (tree.Read name) h
+evaluated_ok context names (tree.Element name index) h =
+    alone_ok context names (tree.Element name index) h
+evaluated_ok context names tree.Pop h =
+    alone_ok context names tree.Pop h
+evaluated_ok context names (tree.Peek index) h =
+    alone_ok context names (tree.Peek index) h
+evaluated_ok context names (tree.Group inner) h =
+    alone_ok context names (tree.Group inner) h
+evaluated_ok context names (tree.Unary operator operand) h =
+    alone_ok context names (tree.Unary operator operand) h
+evaluated_ok context names (tree.Step operator name) h =
+    alone_ok context names (tree.Step operator name) h
+evaluated_ok context names (tree.StepElement operator name index) h =
+    alone_ok context names (tree.StepElement operator name index) h
+evaluated_ok context names (tree.Binary operator left right) h =
+    alone_ok context names (tree.Binary operator left right) h
+evaluated_ok context names (tree.Conditional condition chosen other) h =
+    alone_ok context names (tree.Conditional condition chosen other) h
+
+-- what is returned
+
+answer_gives : (context : Context) (names : TypedNames) (kind : Option ValueType)
+    (value : Option tree.Expr)
+    → Gives (λ (v : Option tree.Expr). IsAnswer context names kind value)
+    (returned_as context names kind value)
+answer_gives context names None None = tt
+answer_gives context names None (Some value) = tt
+answer_gives context names (Some kind) None = tt
+answer_gives context names (Some kind) (Some value) =
+    initial_gives context names kind (Some value)
+
+answer_ok : (context : Context) (names : TypedNames) (kind : Option ValueType)
+    (value : Option tree.Expr) → IsAnswer context names kind value
+    → IsOk (returned_as context names kind value)
+answer_ok context names None None h = refl
+answer_ok context names None (Some value) h = absurd h
+answer_ok context names (Some kind) None h = absurd h
+answer_ok context names (Some kind) (Some value) h =
+    initial_ok context names kind (Some value) h
+
+returned_gives : (context : Context) (names : TypedNames) (returns : Option HelperType)
+    (value : Option tree.Expr)
+    → Gives (λ (v : Option tree.Expr). IsReturned context names returns value)
+    (returned context names returns value)
+returned_gives context names None value = tt
+returned_gives context names (Some kind) value =
+    answer_gives context names (given_type kind) value
+
+returned_ok : (context : Context) (names : TypedNames) (returns : Option HelperType)
+    (value : Option tree.Expr) → IsReturned context names returns value
+    → IsOk (returned context names returns value)
+returned_ok context names None value h = absurd h
+returned_ok context names (Some kind) value h = answer_ok context names (given_type kind) value h
+
 mutual
   -- what the walk accepts is well formed
   pub stmt_gives : (context : Context) (names : TypedNames) (outer : ℕ) (s : tree.Stmt)
@@ -338,10 +466,9 @@ mutual
       (λ v. Ok (tree.Declare t.written v)) (variables_give context names outer t.kind variables)
       (λ v h'. (h.0, subst (λ k. AreDeclared context names outer k variables) h.1 h')))
   stmt_gives context names outer (tree.Evaluate value) =
-      then_gives (λ (t : Typed). HasType context names value t.kind)
-      (λ (s : tree.Stmt). (kind : ValueType) × HasType context names value kind)
-      (expr_resolved context names value) (λ t. Ok (tree.Evaluate t.value))
-      (expr_gives context names value) (λ t h. (t.kind, h))
+      then_gives (λ (v : tree.Expr). IsEvaluated context names value)
+      (λ (s : tree.Stmt). IsEvaluated context names value) (evaluated context names value)
+      (λ v. Ok (tree.Evaluate v)) (evaluated_gives context names value) (λ v h. h)
   stmt_gives context names outer (tree.Assign name operator value) =
       assign_gives context names outer name operator value
   stmt_gives context names outer (tree.AssignElement name index operator value) =
@@ -411,7 +538,11 @@ mutual
       number_given context names context.prints value tree.Print
   stmt_gives context names outer (tree.Println value) =
       number_given context names context.prints value tree.Println
-  stmt_gives context names outer (tree.Return value) = tt
+  stmt_gives context names outer (tree.Return value) =
+      let Q : Type 0 = IsReturned context names context.returns value in
+      then_gives (λ (v : Option tree.Expr). Q) (λ (s : tree.Stmt). Q)
+      (returned context names context.returns value) (λ v. Ok (tree.Return v))
+      (returned_gives context names context.returns value) (λ v h. h)
 
   pub stmts_give : (context : Context) (names : TypedNames) (outer : ℕ) (block : tree.Stmts)
       → Gives (λ (b : tree.Stmts). AreWellFormed context names outer block)
@@ -448,10 +579,8 @@ mutual
       (variables_ok context names outer t.kind variables
       (subst (λ k. AreDeclared context names outer k variables) (sym is.1) h.1)) (λ v. refl))
   stmt_ok context names outer (tree.Evaluate value) h =
-      let at = expr_accepts context names value h.0 h.1 in
-      any_ok (expr_resolved context names value) (λ t. Ok (tree.Evaluate t.value))
-      (is_ok_of (expr_resolved context names value) (record { kind = h.0; value = at.0 }) at.1)
-      (λ t. refl)
+      any_ok (evaluated context names value) (λ v. Ok (tree.Evaluate v))
+      (evaluated_ok context names value h) (λ v. refl)
   stmt_ok context names outer (tree.Assign name operator value) h =
       assign_ok context names outer name operator value h
   stmt_ok context names outer (tree.AssignElement name index operator value) h =
@@ -500,7 +629,9 @@ mutual
       number_given_ok context names context.prints value tree.Print h.0 h.1
   stmt_ok context names outer (tree.Println value) h =
       number_given_ok context names context.prints value tree.Println h.0 h.1
-  stmt_ok context names outer (tree.Return value) h = absurd h
+  stmt_ok context names outer (tree.Return value) h =
+      any_ok (returned context names context.returns value) (λ v. Ok (tree.Return v))
+      (returned_ok context names context.returns value h) (λ v. refl)
 
   pub stmts_ok : (context : Context) (names : TypedNames) (outer : ℕ) (block : tree.Stmts)
       → AreWellFormed context names outer block → IsOk (stmts_resolved context names outer block)

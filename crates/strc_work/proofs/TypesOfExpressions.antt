@@ -1,7 +1,8 @@
 -- The walk accepts an expression at a type exactly where the expression has it.
 use Rattle.std.proofs.Common.{◌≡◌, ◌↔◌, ℕ, ℤ, Bool, true, false, not, List, Option, Some, None}
 use Rattle.std.proofs.Common.{Result, Ok, Err, IsOk, IsNone, IsSome, is_some, refl, sym, ap}
-use Rattle.std.proofs.Common.{◌∙◌, subst, inl, inr}
+use Rattle.std.proofs.Common.{◌∙◌, subst, inl, inr, cond, ◌==◌, arith}
+use Rattle.std.proofs.lemmas.Bool.Decides.{nat_tests}
 use Rattle.strc_base.specs.Names.{value_named}
 use Rattle.strc_base.specs.Results.{result_and_then}
 use Rattle.strc_syntax.specs.Tree as tree
@@ -10,18 +11,24 @@ use Rattle.strc_syntax.specs.declared.tree.UnaryOperator.TheVariants as unary
 use Rattle.strc_syntax.specs.declared.tree.BinaryOperator.{BinaryOperator}
 use Rattle.strc_syntax.specs.declared.tree.BinaryOperator.TheVariants as binary
 use Rattle.strc_check.specs.declared.error.LowerError.{LowerError}
-use Rattle.strc_check.specs.declared.types.ValueType.{ValueType}
-use Rattle.strc_check.specs.declared.types.ValueType.TheVariants.{Int, Boolean, Array}
-use Rattle.strc_check.specs.Typing.{TypedNames, same_type, is_array}
+use Rattle.strc_semantics.specs.declared.types.ValueType.{ValueType}
+use Rattle.strc_semantics.specs.declared.types.ValueType.TheVariants.{Int, Boolean, Array}
+use Rattle.strc_semantics.specs.Typing.{TypedNames, same_type, is_array}
 use Rattle.strc_check.specs.Resolution.{Context, Typed, where_kept, expect_type, constant_read}
 use Rattle.strc_check.specs.Resolution.{read_as, write_as, write_resolved, operand_type, sides_type}
 use Rattle.strc_check.specs.Resolution.{binary_type, unary_typed, binary_typed, conditional_typed}
 use Rattle.strc_check.specs.Resolution.{peek_typed, group_typed, step_resolved, array_resolved}
 use Rattle.strc_check.specs.Resolution.{element_typed, step_element_typed, expr_resolved, expr_as}
-use Rattle.strc_check.specs.Resolution.{initial_resolved}
-use Rattle.strc_check.proofs.ResolvingStatements.{Gives, then_gives}
+use Rattle.strc_check.specs.Resolution.{initial_resolved, Called, called_as, called_among}
+use Rattle.strc_check.specs.Resolution.{call_given, value_called, called_typed, arguments_resolved}
+use Rattle.strc_check.specs.declared.signatures.Signature.{Signature}
+use Rattle.strc_check.specs.Signatures.{Signatures, given_type, argument_count}
+use Rattle.strc_check.specs.declared.error.LowerErrorKind.TheVariants as refused
+use Rattle.strc_syntax.specs.declared.tree.HelperType.{HelperType}
+use Rattle.strc_syntax.specs.declared.tree.HelperType.TheVariants as helper
+use Rattle.strc_check.proofs.ResolvingExpressions.{Gives, then_gives}
 use Rattle.strc_work.specs.Expressions.{IsVariable, SeesVariable, NameHasType}
-use Rattle.strc_work.specs.Expressions.{HasType, InitialHasType}
+use Rattle.strc_work.specs.Expressions.{HasType, InitialHasType, Calls, AreNumbers}
 use Rattle.strc_work.proofs.Accepting.{kept_gives, kept_is, then_is, any_ok, given, is_ok_of}
 use Rattle.strc_work.proofs.Accepting.{same_type_true, same_type_self, not_true, not_false}
 
@@ -55,6 +62,11 @@ name_no_array : (context : Context) (names : TypedNames) (name : List ℕ)
 name_no_array context names name (inl h) = let e : true ≡ false = h.1 in cc
 name_no_array context names name (inr h) = let e : Array ≡ Int = h.1 in cc
 
+given_no_array : (given : HelperType) → given_type given ≡ Some Array → ⊥
+given_no_array helper.Int e = cc
+given_no_array helper.Boolean e = cc
+given_no_array helper.Void e = cc
+
 pub no_array : (context : Context) (names : TypedNames) (e : tree.Expr)
     → HasType context names e Array → ⊥
 no_array context names (tree.Number value) h = cc
@@ -63,7 +75,7 @@ no_array context names (tree.Read name) h = name_no_array context names name h
 no_array context names (tree.Element name index) h = let e : Array ≡ Int = h.2 in cc
 no_array context names tree.Pop h = let e : Array ≡ Int = h.1 in cc
 no_array context names (tree.Peek index) h = let e : Array ≡ Int = h.2 in cc
-no_array context names (tree.Call name arguments) h = absurd h
+no_array context names (tree.Call name arguments) h = given_no_array h.0.0 h.0.1.1
 no_array context names (tree.Group inner) h = no_array context names inner h
 no_array context names (tree.Unary operator operand) h = unary_no_array operator h.1
 no_array context names (tree.Step operator name) h = let e : Array ≡ Int = h.1 in cc
@@ -266,192 +278,329 @@ index_gives H P index made p h =
     (expect_type Int index) (λ i. Ok (record { kind = Int; value = made i }))
     (as_gives H Int index h) (λ i h'. record { 0 = p; 1 = h'; 2 = refl })
 
+-- calls
+
+same_number : (a b : ℕ) → a == b ≡ true → a ≡ b
+same_number a b e = grind (arith, nat_tests)
+
+number_itself : (a : ℕ) → a == a ≡ true
+number_itself a = grind (arith, nat_tests)
+
+-- what the walk finds to be called
+called_gives : (context : Context) (name : List ℕ) (count : ℕ) (helpers : Option Signatures)
+    → context.helpers ≡ helpers
+    → Gives (Calls context name count) (called_among name count helpers)
+called_gives context name count None is = tt
+called_gives context name count (Some helpers) is = by_found (value_named helpers name) refl
+  where
+    by_count : (signature : Signature) → value_named helpers name ≡ Some signature → (t : Bool)
+        → signature.parameters == count ≡ t → Gives (Calls context name count)
+        (cond t (Ok signature.kind) (Err refused.BadArguments))
+    by_count signature found true e = (
+      helpers,
+      (
+        is,
+        found ∙ ap (λ n.
+            Some (record { kind = signature.kind; parameters = n }))
+            (same_number signature.parameters count e),
+      ),
+    )
+    by_count signature found false e = tt
+
+    by_found : (o : Option Signature) → value_named helpers name ≡ o
+        → Gives (Calls context name count) (called_as name count o)
+    by_found None found = tt
+    by_found (Some signature) found =
+        by_count signature found (signature.parameters == count) refl
+
+called_is : (context : Context) (name : List ℕ) (count : ℕ) (kind : HelperType)
+    → Calls context name count kind → called_among name count context.helpers ≡ Ok kind
+called_is context name count kind h =
+    ap (called_among name count) h.1.0 ∙ ap (called_as name count) h.1.1
+    ∙ ap (λ t. cond t (Ok kind) (Err refused.BadArguments)) (number_itself count)
+
+-- a call of a helper function with numbers
+abbrev pub CallsWell : Context → TypedNames → List ℕ → tree.Arguments → Called → Type 0
+CallsWell context names name arguments called =
+    Calls context name (argument_count arguments) called.kind
+    × AreNumbers context names arguments
+
+pub call_gives : (context : Context) (names : TypedNames) (name : List ℕ)
+    (arguments : tree.Arguments) (given : Result tree.Arguments LowerError)
+    → Gives (λ (a : tree.Arguments). AreNumbers context names arguments) given
+    → Gives (CallsWell context names name arguments) (call_given context name arguments given)
+call_gives context names name arguments given numbers =
+    let count = argument_count arguments in
+    let well = CallsWell context names name arguments in
+    then_gives (Calls context name count) well (called_among name count context.helpers)
+    (λ kind. result_and_then given (λ a. Ok (record { kind = kind; call = tree.Call name a })))
+    (called_gives context name count context.helpers refl) (λ kind h.
+    then_gives (λ (a : tree.Arguments). AreNumbers context names arguments) well given
+    (λ a. Ok (record { kind = kind; call = tree.Call name a })) numbers (λ a h'. (h, h')))
+
+pub call_is : (context : Context) (name : List ℕ) (arguments : tree.Arguments)
+    (given : Result tree.Arguments LowerError) (kind : HelperType) (a : tree.Arguments)
+    → Calls context name (argument_count arguments) kind → given ≡ Ok a
+    → call_given context name arguments given
+    ≡ Ok (record { kind = kind; call = tree.Call name a })
+call_is context name arguments given kind a h e =
+    then_is (called_among name (argument_count arguments) context.helpers)
+    (λ k. result_and_then given (λ a'. Ok (record { kind = k; call = tree.Call name a' }))) kind
+    (called_is context name (argument_count arguments) kind h)
+    ∙ then_is given (λ a'. Ok (record { kind = kind; call = tree.Call name a' })) a e
+
+value_gives : (context : Context) (names : TypedNames) (name : List ℕ)
+    (arguments : tree.Arguments) (given : HelperType) (kind : Option ValueType) (call : tree.Expr)
+    → given_type given ≡ kind
+    → CallsWell context names name arguments (record { kind = given; call = call })
+    → Gives (λ (t : Typed). HasType context names (tree.Call name arguments) t.kind)
+    (value_called kind call)
+value_gives context names name arguments given None call e h = tt
+value_gives context names name arguments given (Some kind) call e h =
+    ((given, (h.0, e)), h.1)
+
 -- what the walk accepts has the type that it gives
-pub expr_gives : (context : Context) (names : TypedNames) (e : tree.Expr)
-    → Gives (λ (t : Typed). HasType context names e t.kind) (expr_resolved context names e)
-expr_gives context names (tree.Number value) = refl
-expr_gives context names (tree.Truth value) = refl
-expr_gives context names (tree.Read name) =
-    name_gives context names name (value_named names name) refl
-expr_gives context names (tree.Element name index) =
-    let Q : Typed → Type 0 = λ t. HasType context names (tree.Element name index) t.kind in
-    let H : ValueType → Type 0 = HasType context names index in
-    let P : Type 0 = SeesVariable context names name Array in
-    then_gives (λ (n : List ℕ). P) Q (array_resolved context names name)
-    (λ n. result_and_then (expr_resolved context names index) (λ i. element_typed n i))
-    (array_gives context names name) (λ n p.
-    then_gives (λ (t : Typed). H t.kind) Q (expr_resolved context names index)
-    (λ i. element_typed n i) (expr_gives context names index)
-    (λ i h. index_gives H P i (tree.Element n) p h))
-expr_gives context names tree.Pop =
-    kept_gives (λ (t : Typed). HasType context names tree.Pop t.kind) context.pops
-    (Ok (record { kind = Int; value = tree.Pop })) (λ pops. (pops, refl))
-expr_gives context names (tree.Peek index) =
-    let Q : Typed → Type 0 = λ t. HasType context names (tree.Peek index) t.kind in
-    let H : ValueType → Type 0 = HasType context names index in
-    then_gives (λ (t : Typed). H t.kind) Q (expr_resolved context names index)
-    (λ i. peek_typed context.pops i) (expr_gives context names index) (λ i h.
-    kept_gives Q context.pops (result_and_then (expect_type Int i)
-    (λ i'. Ok (record { kind = Int; value = tree.Peek i' })))
-    (λ pops. index_gives H (context.pops ≡ true) i tree.Peek pops h))
-expr_gives context names (tree.Call name arguments) = tt
-expr_gives context names (tree.Group inner) =
-    let H : Typed → Type 0 = λ t. HasType context names inner t.kind in
-    then_gives H H (expr_resolved context names inner) (λ i. Ok (group_typed i))
-    (expr_gives context names inner) (λ i h. h)
-expr_gives context names (tree.Unary operator operand) =
-    let Q : Typed → Type 0 = λ t. HasType context names (tree.Unary operator operand) t.kind in
-    let H : ValueType → Type 0 = HasType context names operand in
-    then_gives (λ (t : Typed). H t.kind) Q (expr_resolved context names operand)
-    (λ o. unary_typed operator o) (expr_gives context names operand)
-    (λ o h. unary_gives H operator o h)
-expr_gives context names (tree.Step operator name) =
-    let Q : Typed → Type 0 = λ t. HasType context names (tree.Step operator name) t.kind in
-    then_gives (λ (n : List ℕ). SeesVariable context names name Int) Q
-    (step_resolved context names name)
-    (λ n. Ok (record { kind = Int; value = tree.Step operator n }))
-    (step_gives context names name) (λ n h. (h, refl))
-expr_gives context names (tree.StepElement operator name index) =
-    let Q : Typed → Type 0 = λ t. HasType context names (tree.StepElement operator name index)
-    t.kind in
-    let H : ValueType → Type 0 = HasType context names index in
-    let P : Type 0 = SeesVariable context names name Array in
-    then_gives (λ (n : List ℕ). P) Q (array_resolved context names name)
-    (λ n. result_and_then (expr_resolved context names index)
-    (λ i. step_element_typed operator n i))
-    (array_gives context names name) (λ n p.
-    then_gives (λ (t : Typed). H t.kind) Q (expr_resolved context names index)
-    (λ i. step_element_typed operator n i) (expr_gives context names index)
-    (λ i h. index_gives H P i (tree.StepElement operator n) p h))
-expr_gives context names (tree.Binary operator left right) =
-    let Q : Typed → Type 0 = λ t. HasType context names (tree.Binary operator left right) t.kind in
-    let H : ValueType → Type 0 = HasType context names left in
-    let H' : ValueType → Type 0 = HasType context names right in
-    then_gives (λ (t : Typed). H t.kind) Q (expr_resolved context names left)
-    (λ l. result_and_then (expr_resolved context names right) (λ r. binary_typed operator l r))
-    (expr_gives context names left) (λ l h.
-    then_gives (λ (t : Typed). H' t.kind) Q (expr_resolved context names right)
-    (λ r. binary_typed operator l r) (expr_gives context names right)
-    (λ r h'. binary_gives H H' operator l r h h'))
-expr_gives context names (tree.Conditional condition chosen other) =
-    let Q : Typed → Type 0 = λ t. HasType context names (tree.Conditional condition chosen other)
-    t.kind in
-    let H : tree.Expr → Typed → Type 0 = λ e t. HasType context names e t.kind in
-    then_gives (H condition) Q (expr_resolved context names condition)
-    (λ c. result_and_then (expr_resolved context names chosen)
-    (λ t. result_and_then (expr_resolved context names other) (λ o. conditional_typed c t o)))
-    (expr_gives context names condition) (λ c h.
-    then_gives (H chosen) Q (expr_resolved context names chosen)
-    (λ t. result_and_then (expr_resolved context names other) (λ o. conditional_typed c t o))
-    (expr_gives context names chosen) (λ t h'.
-    then_gives (H other) Q (expr_resolved context names other) (λ o. conditional_typed c t o)
-    (expr_gives context names other) (λ o h''.
-    conditional_gives (HasType context names condition) (HasType context names chosen)
-    (HasType context names other) c t o h h' h'')))
+mutual
+  pub expr_gives : (context : Context) (names : TypedNames) (e : tree.Expr)
+      → Gives (λ (t : Typed). HasType context names e t.kind) (expr_resolved context names e)
+  expr_gives context names (tree.Number value) = refl
+  expr_gives context names (tree.Truth value) = refl
+  expr_gives context names (tree.Read name) =
+      name_gives context names name (value_named names name) refl
+  expr_gives context names (tree.Element name index) =
+      let Q : Typed → Type 0 = λ t. HasType context names (tree.Element name index) t.kind in
+      let H : ValueType → Type 0 = HasType context names index in
+      let P : Type 0 = SeesVariable context names name Array in
+      then_gives (λ (n : List ℕ). P) Q (array_resolved context names name)
+      (λ n. result_and_then (expr_resolved context names index) (λ i. element_typed n i))
+      (array_gives context names name) (λ n p.
+      then_gives (λ (t : Typed). H t.kind) Q (expr_resolved context names index)
+      (λ i. element_typed n i) (expr_gives context names index)
+      (λ i h. index_gives H P i (tree.Element n) p h))
+  expr_gives context names tree.Pop =
+      kept_gives (λ (t : Typed). HasType context names tree.Pop t.kind) context.pops
+      (Ok (record { kind = Int; value = tree.Pop })) (λ pops. (pops, refl))
+  expr_gives context names (tree.Peek index) =
+      let Q : Typed → Type 0 = λ t. HasType context names (tree.Peek index) t.kind in
+      let H : ValueType → Type 0 = HasType context names index in
+      then_gives (λ (t : Typed). H t.kind) Q (expr_resolved context names index)
+      (λ i. peek_typed context.pops i) (expr_gives context names index) (λ i h.
+      kept_gives Q context.pops (result_and_then (expect_type Int i)
+      (λ i'. Ok (record { kind = Int; value = tree.Peek i' })))
+      (λ pops. index_gives H (context.pops ≡ true) i tree.Peek pops h))
+  expr_gives context names (tree.Call name arguments) =
+      let given = arguments_resolved context names arguments in
+      then_gives (CallsWell context names name arguments)
+      (λ (t : Typed). HasType context names (tree.Call name arguments) t.kind)
+      (call_given context name arguments given) (λ c. called_typed c)
+      (call_gives context names name arguments given (arguments_give context names arguments))
+      (λ c h. value_gives context names name arguments c.kind (given_type c.kind) c.call refl h)
+  expr_gives context names (tree.Group inner) =
+      let H : Typed → Type 0 = λ t. HasType context names inner t.kind in
+      then_gives H H (expr_resolved context names inner) (λ i. Ok (group_typed i))
+      (expr_gives context names inner) (λ i h. h)
+  expr_gives context names (tree.Unary operator operand) =
+      let Q : Typed → Type 0 = λ t. HasType context names (tree.Unary operator operand) t.kind in
+      let H : ValueType → Type 0 = HasType context names operand in
+      then_gives (λ (t : Typed). H t.kind) Q (expr_resolved context names operand)
+      (λ o. unary_typed operator o) (expr_gives context names operand)
+      (λ o h. unary_gives H operator o h)
+  expr_gives context names (tree.Step operator name) =
+      let Q : Typed → Type 0 = λ t. HasType context names (tree.Step operator name) t.kind in
+      then_gives (λ (n : List ℕ). SeesVariable context names name Int) Q
+      (step_resolved context names name)
+      (λ n. Ok (record { kind = Int; value = tree.Step operator n }))
+      (step_gives context names name) (λ n h. (h, refl))
+  expr_gives context names (tree.StepElement operator name index) =
+      let Q : Typed → Type 0 = λ t. HasType context names (tree.StepElement operator name index)
+      t.kind in
+      let H : ValueType → Type 0 = HasType context names index in
+      let P : Type 0 = SeesVariable context names name Array in
+      then_gives (λ (n : List ℕ). P) Q (array_resolved context names name)
+      (λ n. result_and_then (expr_resolved context names index)
+      (λ i. step_element_typed operator n i))
+      (array_gives context names name) (λ n p.
+      then_gives (λ (t : Typed). H t.kind) Q (expr_resolved context names index)
+      (λ i. step_element_typed operator n i) (expr_gives context names index)
+      (λ i h. index_gives H P i (tree.StepElement operator n) p h))
+  expr_gives context names (tree.Binary operator left right) =
+      let Q : Typed → Type 0 = λ t. HasType context names
+      (tree.Binary operator left right) t.kind in
+      let H : ValueType → Type 0 = HasType context names left in
+      let H' : ValueType → Type 0 = HasType context names right in
+      then_gives (λ (t : Typed). H t.kind) Q (expr_resolved context names left)
+      (λ l. result_and_then (expr_resolved context names right) (λ r. binary_typed operator l r))
+      (expr_gives context names left) (λ l h.
+      then_gives (λ (t : Typed). H' t.kind) Q (expr_resolved context names right)
+      (λ r. binary_typed operator l r) (expr_gives context names right)
+      (λ r h'. binary_gives H H' operator l r h h'))
+  expr_gives context names (tree.Conditional condition chosen other) =
+      let Q : Typed → Type 0 = λ t. HasType context names (tree.Conditional condition chosen other)
+      t.kind in
+      let H : tree.Expr → Typed → Type 0 = λ e t. HasType context names e t.kind in
+      then_gives (H condition) Q (expr_resolved context names condition)
+      (λ c. result_and_then (expr_resolved context names chosen)
+      (λ t. result_and_then (expr_resolved context names other) (λ o. conditional_typed c t o)))
+      (expr_gives context names condition) (λ c h.
+      then_gives (H chosen) Q (expr_resolved context names chosen)
+      (λ t. result_and_then (expr_resolved context names other) (λ o. conditional_typed c t o))
+      (expr_gives context names chosen) (λ t h'.
+      then_gives (H other) Q (expr_resolved context names other) (λ o. conditional_typed c t o)
+      (expr_gives context names other) (λ o h''.
+      conditional_gives (HasType context names condition) (HasType context names chosen)
+      (HasType context names other) c t o h h' h'')))
+
+  pub arguments_give : (context : Context) (names : TypedNames) (arguments : tree.Arguments)
+      → Gives (λ (a : tree.Arguments). AreNumbers context names arguments)
+      (arguments_resolved context names arguments)
+  arguments_give context names tree.NoArgument = tt
+  arguments_give context names (tree.Argument first rest) =
+      let H : ValueType → Type 0 = HasType context names first in
+      let Q : tree.Arguments → Type 0 =
+      λ a. AreNumbers context names (tree.Argument first rest) in
+      then_gives (λ (e : tree.Expr). H Int) Q
+      (result_and_then (expr_resolved context names first) (λ t. expect_type Int t))
+      (λ f. result_and_then (arguments_resolved context names rest)
+      (λ r. Ok (tree.Argument f r)))
+      (then_gives (λ (t : Typed). H t.kind) (λ (e : tree.Expr). H Int)
+      (expr_resolved context names first) (λ t. expect_type Int t)
+      (expr_gives context names first) (λ t h. as_gives H Int t h)) (λ f h.
+      then_gives (λ (a : tree.Arguments). AreNumbers context names rest) Q
+      (arguments_resolved context names rest) (λ r. Ok (tree.Argument f r))
+      (arguments_give context names rest) (λ r h'. (h, h')))
 
 -- an expression that has a type is accepted at it
-pub expr_accepts : (context : Context) (names : TypedNames) (e : tree.Expr) (kind : ValueType)
-    → HasType context names e kind → Accepts kind (expr_resolved context names e)
-expr_accepts context names (tree.Number value) kind h =
-    accepts_at (expr_resolved context names (tree.Number value)) Int kind h
-    (tree.Number value, refl)
-expr_accepts context names (tree.Truth value) kind h =
-    accepts_at (expr_resolved context names (tree.Truth value)) Boolean kind h
-    (tree.Truth value, refl)
-expr_accepts context names (tree.Read name) kind h = name_accepts context names name kind h
-expr_accepts context names (tree.Element name index) kind h =
-    let at = expr_accepts context names index Int h.1 in
-    accepts_at (expr_resolved context names (tree.Element name index)) Int kind h.2 (
-      tree.Element name at.0,
-      then_is (array_resolved context names name)
-          (λ n. result_and_then (expr_resolved context names index) (λ i. element_typed n i)) name
-          (array_is context names name h.0)
-          ∙ then_is (expr_resolved context names index) (λ i. element_typed name i)
-          (record { kind = Int; value = at.0 }) at.1,
-    )
-expr_accepts context names tree.Pop kind h =
-    accepts_at (expr_resolved context names tree.Pop) Int kind h.1
-    (tree.Pop, kept_is context.pops (Ok (record { kind = Int; value = tree.Pop })) h.0)
-expr_accepts context names (tree.Peek index) kind h =
-    let at = expr_accepts context names index Int h.1 in
-    accepts_at (expr_resolved context names (tree.Peek index)) Int kind h.2 (
-      tree.Peek at.0,
-      then_is (expr_resolved context names index)
-          (λ i. peek_typed context.pops i) (record { kind = Int; value = at.0 }) at.1
-          ∙ kept_is context.pops (Ok (record { kind = Int; value = tree.Peek at.0 })) h.0,
-    )
-expr_accepts context names (tree.Call name arguments) kind h = absurd h
-expr_accepts context names (tree.Group inner) kind h =
-    let at = expr_accepts context names inner kind h in (
-      tree.Group at.0,
-      then_is (expr_resolved context names inner) (λ i. Ok (group_typed i))
-          (record { kind = kind; value = at.0 }) at.1,
-    )
-expr_accepts context names (tree.Unary operator operand) kind h =
-    let needed = operand_type operator in
-    let at = expr_accepts context names operand needed h.0 in
-    accepts_at (expr_resolved context names (tree.Unary operator operand)) needed kind h.1 (
-      tree.Unary operator at.0,
-      then_is (expr_resolved context names operand)
-          (λ o. unary_typed operator o) (record { kind = needed; value = at.0 }) at.1
-          ∙ ap (λ r. result_and_then r
-          (λ o. Ok (record { kind = needed; value = tree.Unary operator o })))
-          (as_is needed at.0 (has_same context names operand needed h.0)),
-    )
-expr_accepts context names (tree.Step operator name) kind h =
-    accepts_at (expr_resolved context names (tree.Step operator name)) Int kind h.1 (
-      tree.Step operator name,
-      then_is (step_resolved context names name)
-          (λ n. Ok (record { kind = Int; value = tree.Step operator n })) name
-          (step_is context names name h.0),
-    )
-expr_accepts context names (tree.StepElement operator name index) kind h =
-    let at = expr_accepts context names index Int h.1 in
-    accepts_at (expr_resolved context names (tree.StepElement operator name index)) Int kind h.2 (
-      tree.StepElement operator name at.0,
-      then_is (array_resolved context names name)
-          (λ n. result_and_then (expr_resolved context names index)
-          (λ i. step_element_typed operator n i)) name (array_is context names name h.0)
-          ∙ then_is (expr_resolved context names index) (λ i. step_element_typed operator name i)
-          (record { kind = Int; value = at.0 }) at.1,
-    )
-expr_accepts context names (tree.Binary operator left right) kind h =
-    let sides = h.0.0 in
-    let l = expr_accepts context names left sides h.0.1.0 in
-    let r = expr_accepts context names right sides h.0.1.1 in
-    accepts_at (expr_resolved context names (tree.Binary operator left right))
-    (binary_type operator) kind h.1 (
-      tree.Binary operator l.0 r.0,
-      then_is (expr_resolved context names left)
-          (λ l'. result_and_then (expr_resolved context names right)
-          (λ r'. binary_typed operator l' r'))
-          (record { kind = sides; value = l.0 }) l.1
-          ∙ then_is (expr_resolved context names right)
-          (λ r'. binary_typed operator (record { kind = sides; value = l.0 }) r')
-          (record { kind = sides; value = r.0 }) r.1
-          ∙ binary_is operator sides l.0 r.0 (has_same context names left sides h.0.1.0) h.0.1.2,
-    )
-expr_accepts context names (tree.Conditional condition chosen other) kind h =
-    let c = expr_accepts context names condition Boolean h.0 in
-    let t = expr_accepts context names chosen kind h.1 in
-    let o = expr_accepts context names other kind h.2 in
-    let condition' : Typed = record { kind = Boolean; value = c.0 } in
-    let chosen' : Typed = record { kind = kind; value = t.0 } in (
-      tree.Conditional c.0 t.0 o.0,
-      then_is (expr_resolved context names condition)
-          (λ c'. result_and_then (expr_resolved context names chosen)
-          (λ t'. result_and_then (expr_resolved context names other)
-          (λ o'. conditional_typed c' t' o')))
-          condition' c.1
-          ∙ then_is (expr_resolved context names chosen)
-          (λ t'. result_and_then (expr_resolved context names other)
-          (λ o'. conditional_typed condition' t' o')) chosen' t.1
-          ∙ then_is (expr_resolved context names other)
-          (λ o'. conditional_typed condition' chosen' o') (record { kind = kind; value = o.0 }) o.1
-          ∙ ap (λ r. result_and_then r
-          (λ o'. Ok (record { kind = kind; value = tree.Conditional c.0 t.0 o' })))
-          (as_is kind o.0 (has_same context names chosen kind h.1)),
-    )
+mutual
+  pub expr_accepts : (context : Context) (names : TypedNames) (e : tree.Expr) (kind : ValueType)
+      → HasType context names e kind → Accepts kind (expr_resolved context names e)
+  expr_accepts context names (tree.Number value) kind h =
+      accepts_at (expr_resolved context names (tree.Number value)) Int kind h
+      (tree.Number value, refl)
+  expr_accepts context names (tree.Truth value) kind h =
+      accepts_at (expr_resolved context names (tree.Truth value)) Boolean kind h
+      (tree.Truth value, refl)
+  expr_accepts context names (tree.Read name) kind h = name_accepts context names name kind h
+  expr_accepts context names (tree.Element name index) kind h =
+      let at = expr_accepts context names index Int h.1 in
+      accepts_at (expr_resolved context names (tree.Element name index)) Int kind h.2 (
+        tree.Element name at.0,
+        then_is (array_resolved context names name)
+            (λ n. result_and_then (expr_resolved context names index) (λ i. element_typed n i)) name
+            (array_is context names name h.0)
+            ∙ then_is (expr_resolved context names index) (λ i. element_typed name i)
+            (record { kind = Int; value = at.0 }) at.1,
+      )
+  expr_accepts context names tree.Pop kind h =
+      accepts_at (expr_resolved context names tree.Pop) Int kind h.1
+      (tree.Pop, kept_is context.pops (Ok (record { kind = Int; value = tree.Pop })) h.0)
+  expr_accepts context names (tree.Peek index) kind h =
+      let at = expr_accepts context names index Int h.1 in
+      accepts_at (expr_resolved context names (tree.Peek index)) Int kind h.2 (
+        tree.Peek at.0,
+        then_is (expr_resolved context names index)
+            (λ i. peek_typed context.pops i) (record { kind = Int; value = at.0 }) at.1
+            ∙ kept_is context.pops (Ok (record { kind = Int; value = tree.Peek at.0 })) h.0,
+      )
+  expr_accepts context names (tree.Call name arguments) kind h =
+      let at = arguments_accept context names arguments h.1 in
+      let call = tree.Call name at.0 in (
+        call,
+        then_is (call_given context name arguments (arguments_resolved context names arguments))
+            (λ c. called_typed c) (record { kind = h.0.0; call = call })
+            (call_is context name arguments (arguments_resolved context names arguments) h.0.0
+            at.0 h.0.1.0 at.1)
+            ∙ ap (λ k. value_called k call) h.0.1.1,
+      )
+  expr_accepts context names (tree.Group inner) kind h =
+      let at = expr_accepts context names inner kind h in (
+        tree.Group at.0,
+        then_is (expr_resolved context names inner) (λ i. Ok (group_typed i))
+            (record { kind = kind; value = at.0 }) at.1,
+      )
+  expr_accepts context names (tree.Unary operator operand) kind h =
+      let needed = operand_type operator in
+      let at = expr_accepts context names operand needed h.0 in
+      accepts_at (expr_resolved context names (tree.Unary operator operand)) needed kind h.1 (
+        tree.Unary operator at.0,
+        then_is (expr_resolved context names operand)
+            (λ o. unary_typed operator o) (record { kind = needed; value = at.0 }) at.1
+            ∙ ap (λ r. result_and_then r
+            (λ o. Ok (record { kind = needed; value = tree.Unary operator o })))
+            (as_is needed at.0 (has_same context names operand needed h.0)),
+      )
+  expr_accepts context names (tree.Step operator name) kind h =
+      accepts_at (expr_resolved context names (tree.Step operator name)) Int kind h.1 (
+        tree.Step operator name,
+        then_is (step_resolved context names name)
+            (λ n. Ok (record { kind = Int; value = tree.Step operator n })) name
+            (step_is context names name h.0),
+      )
+  expr_accepts context names (tree.StepElement operator name index) kind h =
+      let at = expr_accepts context names index Int h.1 in
+      accepts_at (expr_resolved context names (tree.StepElement operator name index)) Int kind h.2 (
+        tree.StepElement operator name at.0,
+        then_is (array_resolved context names name)
+            (λ n. result_and_then (expr_resolved context names index)
+            (λ i. step_element_typed operator n i)) name (array_is context names name h.0)
+            ∙ then_is (expr_resolved context names index) (λ i. step_element_typed operator name i)
+            (record { kind = Int; value = at.0 }) at.1,
+      )
+  expr_accepts context names (tree.Binary operator left right) kind h =
+      let sides = h.0.0 in
+      let l = expr_accepts context names left sides h.0.1.0 in
+      let r = expr_accepts context names right sides h.0.1.1 in
+      accepts_at (expr_resolved context names (tree.Binary operator left right))
+      (binary_type operator) kind h.1 (
+        tree.Binary operator l.0 r.0,
+        then_is (expr_resolved context names left)
+            (λ l'. result_and_then (expr_resolved context names right)
+            (λ r'. binary_typed operator l' r'))
+            (record { kind = sides; value = l.0 }) l.1
+            ∙ then_is (expr_resolved context names right)
+            (λ r'. binary_typed operator (record { kind = sides; value = l.0 }) r')
+            (record { kind = sides; value = r.0 }) r.1
+            ∙ binary_is operator sides l.0 r.0 (has_same context names left sides h.0.1.0) h.0.1.2,
+      )
+  expr_accepts context names (tree.Conditional condition chosen other) kind h =
+      let c = expr_accepts context names condition Boolean h.0 in
+      let t = expr_accepts context names chosen kind h.1 in
+      let o = expr_accepts context names other kind h.2 in
+      let condition' : Typed = record { kind = Boolean; value = c.0 } in
+      let chosen' : Typed = record { kind = kind; value = t.0 } in (
+        tree.Conditional c.0 t.0 o.0,
+        then_is (expr_resolved context names condition)
+            (λ c'. result_and_then (expr_resolved context names chosen)
+            (λ t'. result_and_then (expr_resolved context names other)
+            (λ o'. conditional_typed c' t' o')))
+            condition' c.1
+            ∙ then_is (expr_resolved context names chosen)
+            (λ t'. result_and_then (expr_resolved context names other)
+            (λ o'. conditional_typed condition' t' o')) chosen' t.1
+            ∙ then_is (expr_resolved context names other)
+            (λ o'. conditional_typed condition' chosen' o')
+            (record { kind = kind; value = o.0 }) o.1
+            ∙ ap (λ r. result_and_then r
+            (λ o'. Ok (record { kind = kind; value = tree.Conditional c.0 t.0 o' })))
+            (as_is kind o.0 (has_same context names chosen kind h.1)),
+      )
+
+  pub arguments_accept : (context : Context) (names : TypedNames) (arguments : tree.Arguments)
+      → AreNumbers context names arguments
+      → (given : tree.Arguments) × (arguments_resolved context names arguments ≡ Ok given)
+  arguments_accept context names tree.NoArgument h = (tree.NoArgument, refl)
+  arguments_accept context names (tree.Argument first rest) h =
+      let f = expr_accepts context names first Int h.0 in
+      let r = arguments_accept context names rest h.1 in (
+        tree.Argument f.0 r.0,
+        then_is (result_and_then (expr_resolved context names first) (λ t. expect_type Int t))
+            (λ f'. result_and_then (arguments_resolved context names rest)
+            (λ r'. Ok (tree.Argument f' r'))) f.0
+            (then_is (expr_resolved context names first) (λ t. expect_type Int t)
+            (record { kind = Int; value = f.0 }) f.1
+            ∙ as_is Int f.0 refl)
+            ∙ then_is (arguments_resolved context names rest)
+            (λ r'. Ok (tree.Argument f.0 r')) r.0 r.1,
+      )
 
 -- an expression of this type, and one where it may be missing
 pub expr_as_gives : (context : Context) (names : TypedNames) (kind : ValueType) (e : tree.Expr)

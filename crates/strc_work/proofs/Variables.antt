@@ -1,21 +1,18 @@
 -- Variables whose cells are in slots.
 use Rattle.std.proofs.Common.{◌≡◌, ◌≢◌, ℕ, zero, suc, ◌+◌, ◌-◌, ◌<◌, ◌≤◌, Bool, true, false, ◌||◌}
-use Rattle.std.proofs.Common.{cond, ℤ, pos, List, [], ◌∷◌, ◌++◌, length, take, drop, map, get_or}
+use Rattle.std.proofs.Common.{cond, ℤ, pos, List, [], ◌∷◌, ◌++◌, length, take, drop, get_or}
 use Rattle.std.proofs.Common.{set, Some, refl, sym, ap, ◌∙◌, subst, ⊎_elim, arith}
 use Rattle.std.specs.Prelude.{unwrap_or, bytes_eq}
 use Rattle.std.proofs.lemmas.List.{get_or-set_same, get_or-set_other, length-set, length-map}
 use Rattle.std.proofs.lemmas.List.{length-drop, length-take-le, get_or-take, get_or-drop}
-use Rattle.std.proofs.lemmas.List.{ext_get_or}
+use Rattle.std.proofs.lemmas.List.{ext_get_or, drop-map}
 use Rattle.std.proofs.Math.Seq.{take-add}
 use Rattle.std.proofs.lemmas.Bool.{false≢true, cases_lt}
-use Rattle.strc_semantics.specs.Scoping.{Scope, total, is_declared, slot_named, slot_of, size_named}
+use Rattle.strc_semantics.specs.Scoping.{total, is_declared, slot_named, slot_of, size_named}
 use Rattle.strc_semantics.specs.Scoping.{size_of}
 use Rattle.strc_semantics.specs.Firing.{Variables, cells_named, with_cell, values_of}
 use Rattle.strc_semantics.specs.Closed.{IsNamed}
-
--- the variables with the numbers of their cells
-abbrev pub scope_of : Variables → Scope
-scope_of = map (λ v. record { 0 = v.0; 1 = length v.1 })
+pub use Rattle.strc_semantics.proofs.Calls.{scope_of}
 
 abbrev pub at : List ℤ → ℕ → ℤ
 at slots slot = get_or slots slot (pos 0)
@@ -33,6 +30,11 @@ Holds (first ∷ rest) slots = (1 ≤ length first.1) × HoldsFrom (total (scope
 
 pub length-scope_of : (variables : Variables) → length (scope_of variables) ≡ length variables
 length-scope_of variables = length-map variables (λ v. record { 0 = v.0; 1 = length v.1 })
+
+pub scope_of-drop : (n : ℕ) (variables : Variables)
+    → scope_of (drop n variables) ≡ drop n (scope_of variables)
+scope_of-drop n variables = sym (drop-map (λ (v : List ℕ × List ℤ). record
+    { 0 = v.0; 1 = length v.1 }) n variables)
 
 -- what is below the total stays in other slots that are the same there
 pub Holds-same : (variables : Variables) (slots slots' : List ℤ)

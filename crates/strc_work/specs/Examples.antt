@@ -10,9 +10,11 @@ use Rattle.strc_syntax.specs.declared.tree.UnaryOperator.TheVariants as unary
 use Rattle.strc_syntax.specs.declared.tree.BinaryOperator.TheVariants as binary
 use Rattle.strc_syntax.specs.declared.tree.StepOperator.TheVariants as step
 use Rattle.strc_semantics.specs.Filters.{Filter}
-use Rattle.strc_check.specs.declared.types.ValueType.{ValueType}
-use Rattle.strc_check.specs.declared.types.ValueType.TheVariants.{Int, Boolean, Array}
-use Rattle.strc_check.specs.Typing.{TypedNames}
+use Rattle.strc_semantics.specs.declared.types.ValueType.{ValueType}
+use Rattle.strc_semantics.specs.declared.types.ValueType.TheVariants.{Int, Boolean, Array}
+use Rattle.strc_semantics.specs.Typing.{TypedNames}
+use Rattle.strc_syntax.specs.declared.tree.HelperType.{HelperType}
+use Rattle.strc_syntax.specs.declared.tree.HelperType.TheVariants as helper
 use Rattle.strc_check.specs.Resolution.{Context, body_context, init_context, rate_context}
 use Rattle.strc_work.specs.Expressions.{HasType}
 use Rattle.strc_work.specs.Numbers.{HasNumber}
@@ -45,10 +47,10 @@ example_names =
 
 -- the body of a filter from numbers to numbers, and of one that neither takes nor gives items
 abbrev pub flowing : Context
-flowing = body_context example_constants item.Int item.Int
+flowing = body_context example_constants [] item.Int item.Int
 
 abbrev pub closed : Context
-closed = body_context example_constants item.Void item.Void
+closed = body_context example_constants [] item.Void item.Void
 
 abbrev pub number : ℕ → tree.Expr
 number value = tree.Number (pos value)
@@ -294,6 +296,88 @@ ill_typed =
     ∷ filter item.Void item.Int
     (counter ∷ counting (tree.Binary binary.Divide (number 1) (number 0)) ∷ []) ∷ []
 
+-- helper functions f and g, their calls, and a work of such statements
+abbrev pub f : List ℕ
+f = 102 ∷ []
+
+abbrev pub g : List ℕ
+g = 103 ∷ []
+
+abbrev pub calls : List ℕ → List tree.Expr → tree.Expr
+calls name arguments = tree.Call name (tree.arguments_of arguments)
+
+abbrev pub gives : HelperType → List ℕ → (parameters : List (List ℕ)) → List tree.Stmt
+    → tree.Member
+gives kind name parameters statements = tree.Helper kind name parameters (tree.row statements)
+
+abbrev pub does : List tree.Stmt → tree.Member
+does statements = tree.Work [] (tree.row statements)
+
+abbrev pub still : List tree.Member → Filter
+still members = filter item.Void item.Void members
+
+-- int f(int x) { return x; }, void g() {} and boolean g() { return true; }
+abbrev pub same : tree.Member
+same = gives helper.Int f (x ∷ []) (tree.Return (Some (tree.Read x)) ∷ [])
+
+abbrev pub nothing : tree.Member
+nothing = gives helper.Void g [] []
+
+abbrev pub truth : tree.Member
+truth = gives helper.Boolean g [] (tree.Return (Some (tree.Truth true)) ∷ [])
+
+-- a call of a later helper function, as a value and as a statement; in a field's initialiser and
+-- in `init`; one that calls itself; calls that give nothing, and a truth; a field of the same name;
+-- a parameter that hides a field, and a local that hides a parameter; one that writes a field
+abbrev pub helped : List Filter
+helped =
+    still (does (tree.Evaluate (calls f (calls f (number 1 ∷ []) ∷ [])) ∷ []) ∷ same ∷ [])
+    ∷ still (tree.Fields tree.Int (variable z (Some (calls f (number 1 ∷ []))) ∷ [])
+    ∷ tree.Init (tree.row (tree.Evaluate (calls f (tree.Read z ∷ [])) ∷ [])) ∷ does [] ∷ same ∷ [])
+    ∷ still (gives helper.Int f (x ∷ [])
+    (tree.Return (Some (calls f (tree.Read x ∷ []))) ∷ []) ∷ does [] ∷ [])
+    ∷ still (nothing ∷ does (tree.Evaluate (calls g []) ∷ []) ∷ [])
+    ∷ still (gives helper.Void g [] (tree.Return None ∷ []) ∷ does [] ∷ [])
+    ∷ still (truth ∷ does (tree.If (calls g []) tree.Empty ∷ []) ∷ [])
+    ∷ still (tree.Fields tree.Int (variable f None ∷ []) ∷ same ∷ does [] ∷ [])
+    ∷ still (tree.Fields tree.Boolean (variable x None ∷ []) ∷ same ∷ does [] ∷ [])
+    ∷ still (gives helper.Boolean f (x ∷ []) (tree.Declare tree.Boolean (variable x None ∷ [])
+    ∷ tree.Return (Some (tree.Read x)) ∷ []) ∷ does [] ∷ [])
+    ∷ still (counter ∷ gives helper.Void g []
+    (tree.Assign x assign.Set (number 1) ∷ []) ∷ does [] ∷ []) ∷ []
+
+-- too few arguments and too many; a name of no helper function; a truth as an argument; nothing as
+-- a value, also in brackets; `return` in a work; a value that is missing, that isn't wanted, and
+-- that is of another type; a helper function that pops, pushes, and prints; two of one name; two
+-- parameters of one name; a call in a rate; a variable of the caller; a wrong helper function that
+-- nothing calls
+abbrev pub unhelped : List Filter
+unhelped =
+    still (same ∷ does (tree.Evaluate (calls f []) ∷ []) ∷ [])
+    ∷ still (same ∷ does (tree.Evaluate (calls f (number 1 ∷ number 2 ∷ [])) ∷ []) ∷ [])
+    ∷ still (same ∷ does (tree.Evaluate (calls g []) ∷ []) ∷ [])
+    ∷ still (same ∷ does (tree.Evaluate (calls f (tree.Truth true ∷ [])) ∷ []) ∷ [])
+    ∷ still (nothing ∷ same ∷ does (tree.Evaluate (calls f (calls g [] ∷ [])) ∷ []) ∷ [])
+    ∷ still (nothing ∷ does (tree.Evaluate (tree.Group (calls g [])) ∷ []) ∷ [])
+    ∷ still (does (tree.Return None ∷ []) ∷ [])
+    ∷ still (gives helper.Int f [] (tree.Return None ∷ []) ∷ does [] ∷ [])
+    ∷ still (gives helper.Void f [] (tree.Return (Some (number 1)) ∷ []) ∷ does [] ∷ [])
+    ∷ still (gives helper.Boolean f [] (tree.Return (Some (number 1)) ∷ []) ∷ does [] ∷ [])
+    ∷ filter item.Int item.Int
+    (gives helper.Void f [] (tree.Evaluate tree.Pop ∷ []) ∷ does [] ∷ [])
+    ∷ filter item.Int item.Int
+    (gives helper.Void f [] (tree.Push (number 1) ∷ []) ∷ does [] ∷ [])
+    ∷ filter item.Int item.Int
+    (gives helper.Void f [] (tree.Print (number 1) ∷ []) ∷ does [] ∷ [])
+    ∷ still (same ∷ same ∷ does [] ∷ [])
+    ∷ still (gives helper.Void f (x ∷ x ∷ []) [] ∷ does [] ∷ [])
+    ∷ filter item.Int item.Void (same ∷ printing (calls f (number 1 ∷ [])) ∷ [])
+    ∷ still (does (tree.Declare tree.Int (variable z None ∷ []) ∷ [])
+    ∷ gives helper.Void g [] (tree.Evaluate (tree.Read z) ∷ []) ∷ [])
+    ∷ still (does [] ∷ gives helper.Void g [] (tree.If (number 1) tree.Empty ∷ []) ∷ []) ∷ []
+
 pub record FilterRows : Type 0 where
   pub well_typed_rows : AreAllWellTyped well_typed
   pub ill_typed_rows : AreIllTyped ill_typed
+  pub helped_rows : AreAllWellTyped helped
+  pub unhelped_rows : AreIllTyped unhelped

@@ -5,12 +5,13 @@ use Rattle.strc_syntax.specs.Tree as tree
 use Rattle.strc_syntax.specs.declared.tree.ItemType.{ItemType}
 use Rattle.strc_semantics.specs.Constants.{IsConstant, constant_value}
 use Rattle.strc_semantics.specs.Filters.{Filter}
-use Rattle.strc_semantics.specs.Firing.{Port, Store, value_of}
-use Rattle.strc_check.specs.declared.types.ValueType.{ValueType}
-use Rattle.strc_check.specs.Typing.{TypedNames}
+use Rattle.strc_semantics.specs.Firing.{Setting, Store, value_of}
+use Rattle.strc_semantics.specs.declared.types.ValueType.{ValueType}
+use Rattle.strc_semantics.specs.Typing.{TypedNames}
 use Rattle.strc_check.specs.Resolution.{Context, expr_resolved, expr_as, number_resolved}
 use Rattle.strc_check.specs.Resolution.{type_resolved, stmt_resolved, stmts_resolved, rate_resolved}
 use Rattle.strc_check.specs.Resolution.{members_resolved, filter_resolved}
+use Rattle.strc_check.specs.Signatures.{Signatures}
 use Rattle.strc_work.specs.Expressions.{HasType}
 use Rattle.strc_work.specs.Numbers.{HasNumber}
 use Rattle.strc_work.specs.Statements.{IsDeclarable, IsWellFormed, AreWellFormed}
@@ -50,8 +51,8 @@ NumbersAreUnique =
 -- the value of an expression that names no variable is that of the expression wherever it is,
 -- and nothing changes
 abbrev pub ConstantsMeanTheirValue : Type 0
-ConstantsMeanTheirValue = (port : Port) (value : tree.Expr) (store : Store) → IsConstant value
-    → value_of port value store
+ConstantsMeanTheirValue = (setting : Setting) (value : tree.Expr) (store : Store) → IsConstant value
+    → value_of setting value store
     ≡ result_and_then (constant_value value) (λ number. Ok (number, store))
 
 -- the walk accepts a declared type, a statement and a block exactly where they are well formed
@@ -76,10 +77,11 @@ WalkAcceptsRates = (constants : List (List ℕ × ℤ)) (fields : TypedNames) (i
     ↔ IsRate constants fields input output rate
 
 abbrev pub WalkAcceptsMembers : Type 0
-WalkAcceptsMembers = (constants : List (List ℕ × ℤ)) (input output : ItemType)
-    (fields : TypedNames) (before : List (List ℕ)) (members : List tree.Member)
-    → IsOk (members_resolved constants input output fields before members)
-    ↔ AreWellFormedMembers constants input output fields before members
+WalkAcceptsMembers = (constants : List (List ℕ × ℤ)) (helpers : Signatures)
+    (input output : ItemType) (fields : TypedNames) (before known : List (List ℕ))
+    (members : List tree.Member)
+    → IsOk (members_resolved constants helpers input output fields before known members)
+    ↔ AreWellFormedMembers constants helpers input output fields before known members
 
 abbrev pub WalkAcceptsFilters : Type 0
 WalkAcceptsFilters = (constants : List (List ℕ × ℤ)) (filter : Filter)

@@ -4,6 +4,7 @@ pub mod Answers
 pub mod StartErrors
 pub mod Counting
 pub mod Products
+pub mod Settings
 pub mod Runs
 pub mod Expressions
 pub mod Numbers
@@ -11,3 +12,4 @@ pub mod Statements
 pub mod Filters
 pub mod Laws
 pub mod Examples
+pub mod Calls

@@ -1,9 +1,9 @@
 -- The number of a constant expression, by the meaning of expressions.
 use Rattle.std.specs.Prelude.{◌≡◌, ℕ, ℤ, List, [], ◌∷◌, Ok}
 use Rattle.strc_syntax.specs.Tree as tree
-use Rattle.strc_semantics.specs.Firing.{Port, Traffic, Variables, Store, value_of}
-use Rattle.strc_check.specs.declared.types.ValueType.TheVariants.{Int}
-use Rattle.strc_check.specs.Typing.{TypedNames}
+use Rattle.strc_semantics.specs.Firing.{Setting, Traffic, Variables, Store, value_of}
+use Rattle.strc_semantics.specs.declared.types.ValueType.TheVariants.{Int}
+use Rattle.strc_semantics.specs.Typing.{TypedNames}
 use Rattle.strc_check.specs.Resolution.{rate_context}
 use Rattle.strc_work.specs.Expressions.{HasType}
 
@@ -19,10 +19,10 @@ constant_store constants traffic = record
     { variables = constant_variables constants; traffic = traffic }
 
 -- where each constant has its value, the expression means this number: without fault, whatever
--- items there are, and it changes nothing
+-- items there are and whatever calls give, and it changes nothing
 abbrev pub Means : List (List ℕ × ℤ) → tree.Expr → ℤ → Type 0
-Means constants value number = (port : Port) (traffic : Traffic)
-    → value_of port value (constant_store constants traffic)
+Means constants value number = (setting : Setting) (traffic : Traffic)
+    → value_of setting value (constant_store constants traffic)
     ≡ Ok (number, constant_store constants traffic)
 
 -- a constant expression, as of a rate or of a length: an Int over constants alone, and its number

@@ -1,15 +1,18 @@
 -- Which declared types, declarations, statements and blocks are well formed.
-use Rattle.std.specs.Prelude.{◌≡◌, ℕ, ℤ, pos, ◌≤ℤ◌, List, [], ◌∷◌, length, IsTrue, IsFalse}
-use Rattle.strc_base.specs.Names.{has_name}
+use Rattle.std.specs.Prelude.{◌≡◌, ℕ, ℤ, pos, ◌≤ℤ◌, List, [], ◌∷◌, length, IsTrue, IsFalse, Option}
+use Rattle.std.specs.Prelude.{Some, None}
 use Rattle.strc_syntax.specs.Tree as tree
 use Rattle.strc_syntax.specs.declared.tree.AssignOperator.{AssignOperator}
 use Rattle.strc_syntax.specs.declared.tree.AssignOperator.TheVariants as assign
 use Rattle.strc_check.specs.declared.type_rules.TheConstants.{LENGTH_LIMIT}
-use Rattle.strc_check.specs.declared.types.ValueType.{ValueType}
-use Rattle.strc_check.specs.declared.types.ValueType.TheVariants.{Int, Boolean, Array}
-use Rattle.strc_check.specs.Typing.{TypedNames, type_of, names_after, block_names}
-use Rattle.strc_check.specs.Resolution.{Context}
-use Rattle.strc_work.specs.Expressions.{IsVariable, SeesVariable, HasType, InitialHasType}
+use Rattle.strc_semantics.specs.declared.types.ValueType.{ValueType}
+use Rattle.strc_semantics.specs.declared.types.ValueType.TheVariants.{Int, Boolean, Array}
+use Rattle.strc_semantics.specs.Typing.{TypedNames, type_of, names_after}
+use Rattle.strc_check.specs.Resolution.{Context, is_taken}
+use Rattle.strc_check.specs.Signatures.{given_type, argument_count}
+use Rattle.strc_syntax.specs.declared.tree.HelperType.{HelperType}
+use Rattle.strc_work.specs.Expressions.{IsVariable, SeesVariable, HasType, InitialHasType, Calls}
+use Rattle.strc_work.specs.Expressions.{AreNumbers}
 use Rattle.strc_work.specs.Numbers.{HasNumber}
 
 -- an array of this length has an element, and no more than an array may have
@@ -23,13 +26,13 @@ IsDeclarable constants names tree.Int = Unit {0}
 IsDeclarable constants names (tree.Array length) =
     (number : ℤ) × (HasNumber constants names length number × IsLength number)
 
--- variables of this type, each seen by those after it: none has the name of another one of its
--- block, and an initialiser has their type
+-- variables of this type, each seen by those after it: none has a name that is taken in its block,
+-- and an initialiser has their type
 abbrev pub AreDeclared : Context → TypedNames → (outer : ℕ) → ValueType → List tree.Variable
     → Type 0
 AreDeclared context names outer kind [] = Unit {0}
 AreDeclared context names outer kind (first ∷ rest) =
-    IsFalse (has_name (block_names outer names) first.name)
+    IsFalse (is_taken names outer first.name)
     × InitialHasType context names first.initial kind
     × AreDeclared context (record { 0 = first.name; 1 = kind } ∷ names) outer kind rest
 
@@ -42,6 +45,25 @@ IsAssignable assign.Multiply kind = kind ≡ Int
 IsAssignable assign.Divide kind = kind ≡ Int
 IsAssignable assign.Remainder kind = kind ≡ Int
 
+-- an expression that is a statement: a call may give nothing there
+abbrev pub IsEvaluated : Context → TypedNames → tree.Expr → Type 0
+IsEvaluated context names (tree.Call name arguments) =
+    ((given : HelperType) × Calls context name (argument_count arguments) given)
+    × AreNumbers context names arguments
+IsEvaluated context names value = (kind : ValueType) × HasType context names value kind
+
+-- what is returned where this type is wanted, if a value is
+abbrev pub IsAnswer : Context → TypedNames → Option ValueType → Option tree.Expr → Type 0
+IsAnswer context names None None = Unit {0}
+IsAnswer context names None (Some value) = ⊥
+IsAnswer context names (Some kind) None = ⊥
+IsAnswer context names (Some kind) (Some value) = HasType context names value kind
+
+-- what is returned from a helper function, if this is in one
+abbrev pub IsReturned : Context → TypedNames → Option HelperType → Option tree.Expr → Type 0
+IsReturned context names None value = ⊥
+IsReturned context names (Some kind) value = IsAnswer context names (given_type kind) value
+
 abbrev mutual
   -- a statement, among the names that can be seen, of which so many are outside its block
   pub IsWellFormed : Context → TypedNames → (outer : ℕ) → tree.Stmt → Type 0
@@ -53,7 +75,7 @@ abbrev mutual
       IsDeclarable context.constants names kind
       × AreDeclared context names outer (type_of kind) variables
   IsWellFormed context names outer (tree.Evaluate value) =
-      (kind : ValueType) × HasType context names value kind
+      IsEvaluated context names value
   IsWellFormed context names outer (tree.Assign name operator value) =
       (kind : ValueType) × (IsVariable names name kind × IsAssignable operator kind
       × HasType context names value kind)
@@ -79,7 +101,8 @@ abbrev mutual
       IsTrue context.prints × HasType context names value Int
   IsWellFormed context names outer (tree.Println value) =
       IsTrue context.prints × HasType context names value Int
-  IsWellFormed context names outer (tree.Return value) = ⊥
+  IsWellFormed context names outer (tree.Return value) =
+      IsReturned context names context.returns value
 
   -- the statements of a block, each among the names that are declared before it
   pub AreWellFormed : Context → TypedNames → (outer : ℕ) → tree.Stmts → Type 0

@@ -21,7 +21,6 @@ mod short_loop;
 pub mod state;
 mod tested_loop;
 
-pub use strc_check::constants;
 pub use strc_code::code;
 pub use strc_instructions::window;
-pub use strc_semantics::{body, fault, word};
+pub use strc_semantics::{body, constants, fault, word};

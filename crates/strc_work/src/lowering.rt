@@ -6,10 +6,10 @@ ghost use Rattle.strc_check.specs.Verdicts.{IsVerdict};
 
 use crate::code::Code;
 use std::alloc::Global;
-use strc_check::constants::Constants;
 use strc_check::error::LowerError;
 use strc_check::resolution;
 use strc_lowering::emission;
+use strc_semantics::constants::Constants;
 use strc_syntax::tree::{FilterTree, ItemType, Member};
 
 /// The code of a filter, with its constants substituted.

@@ -1,6 +1,6 @@
 use Rattle.std.proofs.Common.{◌≡◌, drop, map}
 use Rattle.strc_syntax.specs.View.{variable_view}
-use Rattle.strc_check.specs.Typing.{with_declared}
+use Rattle.strc_semantics.specs.Typing.{with_declared}
 use Rattle.strc_check.proofs.resolution.declare_typed.Given as goal
 
 abbrev pub invariant-loop-variable : goal.invariant-loop-variable

@@ -3,7 +3,7 @@ use Rattle.std.proofs.Math.ListN.{drop_of_length-le}
 use Rattle.std.proofs.lemmas.List.{append-nil}
 use Rattle.std.proofs.lemmas.Result.{err_from_is_err_and}
 use Rattle.strc_syntax.specs.View.{variable_view}
-use Rattle.strc_check.specs.Typing.{names_with}
+use Rattle.strc_semantics.specs.Typing.{names_with}
 use Rattle.strc_check.specs.Resolution as judged
 use Rattle.strc_check.specs.Verdicts.{context_of}
 use Rattle.strc_base.proofs.Lists.{map-drop}

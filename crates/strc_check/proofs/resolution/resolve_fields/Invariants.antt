@@ -1,6 +1,6 @@
 use Rattle.std.proofs.Common.{◌≡◌, drop, map}
 use Rattle.strc_syntax.specs.View.{variable_view}
-use Rattle.strc_check.specs.Typing.{names_with}
+use Rattle.strc_semantics.specs.Typing.{names_with}
 use Rattle.strc_check.specs.Resolution.{fields_resolved}
 use Rattle.strc_check.specs.Verdicts.{context_of}
 use Rattle.strc_check.proofs.Resolved.{list_after}

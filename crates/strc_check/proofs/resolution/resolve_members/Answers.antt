@@ -12,6 +12,7 @@ use Rattle.strc_check.proofs.resolution.resolve_members.Goals as goal
 pub loop-member-preserved : goal.loop-member-preserved
 loop-member-preserved c =
     let constants = c.args.constants.now in
+    let helpers = c.args.helpers.now in
     let input = c.args.input in
     let output = c.args.output in
     let members = c.args.members.now in
@@ -23,25 +24,35 @@ loop-member-preserved c =
     let rest = members_of (drop (i + 1) members) in
     record {
       left = ap (λ resolved. list_after member_view resolved
-          (judged.members_resolved constants input output c.resolve_member-next.new.fields
-          c.resolve_member-next.new.before rest)) c.in_ok-push_next.ensures.ok.2
+          (judged.members_resolved constants helpers input output c.resolve_member-next.new.fields
+          c.resolve_member-next.new.before c.resolve_member-next.new.known rest))
+          c.in_ok-push_next.ensures.ok.2
           ∙ ap (λ f. list_after member_view
           (c.loop-member.resolved.items ++ y ∷ [])
-          (judged.members_resolved constants input output f c.resolve_member-next.new.before rest))
+          (judged.members_resolved constants helpers input output f c.resolve_member-next.new.before
+          c.resolve_member-next.new.known rest))
           (rw told at c.resolve_member-next.ensures.fields)
           ∙ ap (λ b. list_after member_view
           (c.loop-member.resolved.items ++ y ∷ [])
-          (judged.members_resolved constants input output c.loop-member.fields b rest))
+          (judged.members_resolved constants helpers input output c.loop-member.fields b
+          c.resolve_member-next.new.known rest))
           (rw told at c.resolve_member-next.ensures.before)
+          ∙ ap (λ k. list_after member_view
+          (c.loop-member.resolved.items ++ y ∷ [])
+          (judged.members_resolved constants helpers input output c.loop-member.fields
+          (judged.fields_after c.loop-member.before (member_view x)) k rest))
+          (rw told at c.resolve_member-next.ensures.known)
           ∙ list_after_step member_view c.loop-member.resolved.items y
-          (judged.member_resolved constants input output c.loop-member.fields c.loop-member.before
-          (member_view x))
-          (judged.members_resolved constants input output c.loop-member.fields
-          (judged.fields_after c.loop-member.before (member_view x)) rest)
+          (judged.member_resolved constants helpers input output c.loop-member.fields
+          c.loop-member.before c.loop-member.known (member_view x))
+          (judged.members_resolved constants helpers input output c.loop-member.fields
+          (judged.fields_after c.loop-member.before (member_view x))
+          (judged.known_after c.loop-member.known (member_view x)) rest)
           (rw told at c.resolve_member-next.ensures.verdict)
           ∙ sym (ap (λ l. list_after member_view c.loop-member.resolved.items
-          (judged.members_resolved constants input output c.loop-member.fields
-          c.loop-member.before l)) (map-drop member_view members i x within c.member-item.is))
+          (judged.members_resolved constants helpers input output c.loop-member.fields
+          c.loop-member.before c.loop-member.known l))
+          (map-drop member_view members i x within c.member-item.is))
           ∙ c.loop-member.invariant.left;
       fields = (rw told at c.resolve_member-next.ensures.fields) ∙ c.loop-member.invariant.fields;
     }
@@ -49,6 +60,7 @@ loop-member-preserved c =
 pub returns-in_err-push_next : goal.returns-in_err-push_next
 returns-in_err-push_next c =
     let constants = c.args.constants.now in
+    let helpers = c.args.helpers.now in
     let input = c.args.input in
     let output = c.args.output in
     let members = c.args.members.now in
@@ -58,21 +70,25 @@ returns-in_err-push_next c =
     let rest = members_of (drop (i + 1) members) in
     let fields = c.loop-member.fields in
     let before = c.loop-member.before in
+    let known = c.loop-member.known in
     let resolved = c.loop-member.resolved.items in
     let e = c.in_err-push_next.field-0.0 in
     let refusal = next_refused member_view
-    (judged.member_resolved constants input output fields before (member_view x))
+    (judged.member_resolved constants helpers input output fields before known (member_view x))
     c.resolve_member-next.result e c.resolve_member-next.ensures.verdict
     c.in_err-push_next.ensures.err in
     let p = err_from_is_err_and c.from_residual.result c.from_residual.ensures.1 in
     let here = list_refused member_view resolved
-    (judged.member_resolved constants input output fields before (member_view x))
-    (judged.members_resolved constants input output fields
-    (judged.fields_after before (member_view x)) rest) e refusal in
+    (judged.member_resolved constants helpers input output fields before known (member_view x))
+    (judged.members_resolved constants helpers input output fields
+    (judged.fields_after before (member_view x))
+    (judged.known_after known (member_view x)) rest) e refusal in
     let left = ap (λ l. list_after member_view resolved
-    (judged.members_resolved constants input output fields before l))
+    (judged.members_resolved constants helpers input output fields before known l))
     (sym (map-drop member_view members i x within c.member-item.is))
     ∙ c.loop-member.invariant.left
-    ∙ ap (λ b. judged.members_resolved constants input output c.args.fields.now b
-    (members_of members)) c.new-before.ensures in
+    ∙ ap (λ b. judged.members_resolved constants helpers input output c.args.fields.now b
+    c.new-known.result (members_of members)) c.new-before.ensures
+    ∙ ap (λ k. judged.members_resolved constants helpers input output c.args.fields.now [] k
+    (members_of members)) c.new-known.ensures in
     rw (p.1, p.2) (refusal_same _ _ e left here)

@@ -8,9 +8,9 @@ use Rattle.strc_check.proofs.resolution.resolve_members.Given as goal
 abbrev pub invariant-loop-member : goal.invariant-loop-member
 invariant-loop-member l = record {
   left : list_after member_view l.resolved.items
-      (members_resolved l.constants l.input l.output l.fields l.before
+      (members_resolved l.constants l.helpers l.input l.output l.fields l.before l.known
       (members_of (drop l.member-index l.members)))
-      ≡ members_resolved l.constants l.input l.output l.initial.fields l.initial.before
-      (members_of l.members);
+      ≡ members_resolved l.constants l.helpers l.input l.output l.initial.fields
+      l.initial.before l.initial.known (members_of l.members);
   fields : l.fields ≡ l.initial.fields;
 }

@@ -1,7 +1,7 @@
 use Rattle.std.proofs.Common.{◌<◌, ◌+◌, ◌∷◌, map, length, drop, sym, ap, ◌∙◌, arith}
 use Rattle.strc_syntax.specs.View.{type_view, variable_view, member_view}
 use Rattle.strc_semantics.specs.Filters.{members_of}
-use Rattle.strc_check.specs.Typing.{type_of, with_declared, names_after_fields}
+use Rattle.strc_semantics.specs.Typing.{type_of, with_declared, names_after_fields}
 use Rattle.strc_base.proofs.Lists.{map-drop}
 use Rattle.strc_check.proofs.Members.{other_than_fields}
 use Rattle.strc_check.proofs.resolution.typed_fields.Goals as goal

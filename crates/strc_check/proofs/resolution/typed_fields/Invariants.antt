@@ -1,6 +1,6 @@
 use Rattle.std.proofs.Common.{◌≡◌, [], drop}
 use Rattle.strc_semantics.specs.Filters.{members_of}
-use Rattle.strc_check.specs.Typing.{names_after_fields}
+use Rattle.strc_semantics.specs.Typing.{names_after_fields}
 use Rattle.strc_check.proofs.resolution.typed_fields.Given as goal
 
 abbrev pub invariant-loop-member : goal.invariant-loop-member

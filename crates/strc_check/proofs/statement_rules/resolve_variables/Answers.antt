@@ -3,7 +3,7 @@ use Rattle.std.proofs.Math.ListN.{drop_of_length-le}
 use Rattle.std.proofs.lemmas.List.{append-nil}
 use Rattle.std.proofs.lemmas.Result.{err_from_is_err_and}
 use Rattle.strc_syntax.specs.View.{variable_view}
-use Rattle.strc_check.specs.Typing.{with_declared}
+use Rattle.strc_semantics.specs.Typing.{with_declared}
 use Rattle.strc_check.specs.Resolution as judged
 use Rattle.strc_check.specs.Verdicts.{context_of}
 use Rattle.strc_base.proofs.Lists.{map-drop}
@@ -34,7 +34,7 @@ loop-variable-preserved c =
           ∙ ap (λ n. list_after variable_view (c.loop-variable.resolved.items ++ y ∷ [])
           (judged.variables_resolved context n start kind rest)) after
           ∙ list_after_step variable_view c.loop-variable.resolved.items y
-          (judged.variable_resolved context names start kind (variable_view x))
+          (judged.local_resolved context names start kind (variable_view x))
           (judged.variables_resolved context (record { 0 = x.name; 1 = kind } ∷ names) start kind
           rest)
           (rw told at c.resolve_variable-next.ensures.verdict)
@@ -58,12 +58,12 @@ returns-in_err-push_next-clause-verdict c =
     let names = c.loop-variable.names in
     let e = c.in_err-push_next.field-0.0 in
     let refusal = next_refused variable_view
-    (judged.variable_resolved context names start kind (variable_view x))
+    (judged.local_resolved context names start kind (variable_view x))
     c.resolve_variable-next.result e c.resolve_variable-next.ensures.verdict
     c.in_err-push_next.ensures.err in
     let p = err_from_is_err_and c.from_residual.result c.from_residual.ensures.1 in
     let here = list_refused variable_view c.loop-variable.resolved.items
-    (judged.variable_resolved context names start kind (variable_view x))
+    (judged.local_resolved context names start kind (variable_view x))
     (judged.variables_resolved context (record { 0 = x.name; 1 = kind } ∷ names) start kind
     (map variable_view (drop (i + 1) variables)))
     e refusal in

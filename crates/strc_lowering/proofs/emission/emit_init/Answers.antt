@@ -1,4 +1,4 @@
-use Rattle.std.proofs.Common.{[], ◌∷◌, sym, ap, ◌∙◌}
+use Rattle.std.proofs.Common.{false, [], ◌∷◌, sym, ap, ◌∙◌}
 use Rattle.std.proofs.lemmas.Result.{on_ok_weaker}
 use Rattle.strc_syntax.specs.View.{block_view, member_view}
 use Rattle.strc_code.specs.Nodes.{before}
@@ -13,8 +13,8 @@ returns-in-Init-clause-code c =
     let names = c.args.names.now in
     let block = c.in-Init.block in
     let same =
-    ap (λ l. stmts_nodes names (block_view l)) c.deref.ensures.value
-    ∙ sym (before_end (stmts_nodes names (block_view block.items)))
+    ap (λ l. stmts_nodes names false (block_view l)) c.deref.ensures.value
+    ∙ sym (before_end (stmts_nodes names false (block_view block.items)))
     ∙ ap (λ m. inits_nodes names (m ∷ [])) (sym (member_view-Init block))
     ∙ ap (λ m. inits_nodes names (member_view m ∷ [])) (sym c.in-Init.is) in
     on_ok_weaker c.emit_block.result (λ h. h ∙ ap (before (written c.args.code.now)) same)

@@ -10,6 +10,7 @@ use Rattle.strc_code.specs.Lowering.{slot_count}
 use Rattle.strc_semantics.specs.Firing.{fired}
 use Rattle.strc_work.specs.Answers.{Fires}
 use Rattle.strc_work.proofs.Printing.{body_wants}
+use Rattle.strc_work.specs.Settings.{uncalled}
 use Rattle.strc_work.proofs.Answering.{fire_answer, given_back}
 use Rattle.strc_work.proofs.firing.fire_code.Goals as goal
 
@@ -36,10 +37,11 @@ returns-clause-fired g c =
     let window = g.W.Window.items c.args.window.now in
     let words = c.args.words.now.items in
     let io = fresh_io c.frame.inside.io.room words in
-    let ran : Tells (node_done (port_within limits window) c.routine-routine.result.now.flat
+    let ran : Tells (node_done (uncalled (port_within limits window))
+    c.routine-routine.result.now.flat
     (machine_of old io)) c.run-result.result after = search rules in
     let reported = subst (λ r. Tells r c.run-result.result after)
-    (c.routine-routine.ensures.flat.does (port_within limits window) (machine_of old io))
+    (c.routine-routine.ensures.flat.does (uncalled (port_within limits window)) (machine_of old io))
     ran in
     let answer = fire_answer tree c.args.body c.args.state.now.fields old inside.fields
     c.frame.inside.io.room limits window words
@@ -68,10 +70,11 @@ returns-clause-silent g c =
     let window = g.W.Window.items c.args.window.now in
     let words = c.args.words.now.items in
     let io = fresh_io c.frame.inside.io.room words in
-    let ran : Tells (node_done (port_within limits window) c.routine-routine.result.now.flat
+    let ran : Tells (node_done (uncalled (port_within limits window))
+    c.routine-routine.result.now.flat
     (machine_of old io)) c.run-result.result after = search rules in
     let reported = subst (λ r. Tells r c.run-result.result after)
-    (c.routine-routine.ensures.flat.does (port_within limits window) (machine_of old io))
+    (c.routine-routine.ensures.flat.does (uncalled (port_within limits window)) (machine_of old io))
     ran in
     let answer = fire_answer tree c.args.body c.args.state.now.fields old inside.fields
     c.frame.inside.io.room limits window words
@@ -85,9 +88,8 @@ returns-clause-silent g c =
 pub returns-clause-memory : goal.returns-clause-memory
 returns-clause-memory g c =
     let tree = c.args.code.now in
-    let closed = c.routine-routine.ensures.closed in
     body_wants c.args.body (filter_of tree)
-    (code_of c.routine-routine.result.now.code) c.run-result.result closed
+    (code_of c.routine-routine.result.now.code) c.run-result.result
     c.routine-routine.ensures.code
     (wants_as (nodes_print (code_of c.routine-routine.result.now.flat))
     (nodes_print (code_of c.routine-routine.result.now.code)) c.run-result.result

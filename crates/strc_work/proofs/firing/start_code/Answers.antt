@@ -8,6 +8,7 @@ use Rattle.strc_code.specs.declared.limits.FiringLimits.{FiringLimits}
 use Rattle.strc_code.specs.Lowering.{slot_count}
 use Rattle.strc_semantics.specs.Firing.{started}
 use Rattle.strc_work.specs.Answers.{Starts}
+use Rattle.strc_work.specs.Settings.{uncalled}
 use Rattle.strc_work.proofs.Answering.{start_answer, start_halts, given_back}
 use Rattle.strc_work.proofs.firing.start_code.Goals as goal
 
@@ -29,14 +30,15 @@ returns-in-Ok-run-clause-values c =
     (omega (arith, c.in-Ok.slots.ok.0, ap length old_is)) (omega (arith, ap length old_is)) in
     let none = fresh_io (length c.new.result.items) [] in
     let limits : FiringLimits = record { pops = 0; peek = 0; pushes = 0 } in
-    let ran : Tells (node_done (port_within limits []) routine.flat (machine_of old none))
-    (Ok c.in-Ok-run.field-0) (machine_of new c.run.new.io) = search rules in
+    let ran : Tells (node_done (uncalled (port_within limits [])) routine.flat
+    (machine_of old none)) (Ok c.in-Ok-run.field-0) (machine_of new c.run.new.io) = search rules in
     let reported = start_answer tree old c.slot_count.result fields
     (length c.new.result.items) limits [] (code_of routine.code)
     (Ok c.in-Ok-run.field-0) (machine_of new c.run.new.io) c.start_routine.ensures.closed
     c.start_routine.ensures.code (old_is ∙ zeros) c.field_count-fields.ensures room refl
     (subst (λ r. Tells r (Ok c.in-Ok-run.field-0) (machine_of new c.run.new.io))
-    (c.start_routine.ensures.flat.does (port_within limits []) (machine_of old none)) ran) in
+    (c.start_routine.ensures.flat.does (uncalled (port_within limits [])) (machine_of old none))
+    ran) in
     reported ∙ ap (λ l. Ok (take fields l)) (sym back)
 
 pub returns-in-Err-clause-values : goal.returns-in-Err-clause-values
@@ -53,13 +55,14 @@ returns-in-Err-clause-values c =
     omega (arith, c.slot_count.ensures) in
     let none = fresh_io (length c.new.result.items) [] in
     let limits : FiringLimits = record { pops = 0; peek = 0; pushes = 0 } in
-    let ran : Tells (node_done (port_within limits []) routine.flat (machine_of old none))
-    (Err c.in-Err.halt) (machine_of new c.run.new.io) = search rules in
+    let ran : Tells (node_done (uncalled (port_within limits [])) routine.flat
+    (machine_of old none)) (Err c.in-Err.halt) (machine_of new c.run.new.io) = search rules in
     let reported = start_answer tree old c.slot_count.result fields
     (length c.new.result.items) limits [] (code_of routine.code)
     (Err c.in-Err.halt) (machine_of new c.run.new.io) c.start_routine.ensures.closed
     c.start_routine.ensures.code (old_is ∙ zeros) c.field_count-fields.ensures room refl
     (subst (λ r. Tells r (Err c.in-Err.halt) (machine_of new c.run.new.io))
-    (c.start_routine.ensures.flat.does (port_within limits []) (machine_of old none)) ran) in
+    (c.start_routine.ensures.flat.does (uncalled (port_within limits [])) (machine_of old none))
+    ran) in
     subst (λ e. Starts (started (filter_of tree)) (Err e)) (sym c.start_error.ensures)
     (start_halts (started (filter_of tree)) c.in-Err.halt (take fields new) reported)

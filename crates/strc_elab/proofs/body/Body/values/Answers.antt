@@ -1,5 +1,5 @@
 use Rattle.std.proofs.Common.{rules, ◌≡◌, ◌∙◌, ◌++◌, ◌∷◌, [], Ok}
-use Rattle.strc_check.specs.declared.types.ValueType.TheVariants as kind
+use Rattle.strc_semantics.specs.declared.types.ValueType.TheVariants as kind
 use Rattle.strc_syntax.specs.View.{expr_view}
 use Rattle.strc_statements.specs.Saying.{store_of}
 use Rattle.strc_statements.specs.Statements.{eval_checked}

@@ -1,6 +1,6 @@
 use Rattle.std.proofs.Common.{◌≡◌, map, drop}
 use Rattle.strc_syntax.specs.View.{variable_view}
-use Rattle.strc_check.specs.Typing as typing
+use Rattle.strc_semantics.specs.Typing as typing
 use Rattle.strc_statements.specs.Statements as spec
 use Rattle.strc_statements.specs.Saying.{store_of}
 use Rattle.strc_statements.specs.Places.{place_of}

@@ -1,5 +1,5 @@
 use Rattle.std.proofs.Common.{[], ◌∷◌, ◌++◌, ap, ◌∙◌}
-use Rattle.strc_check.specs.Typing.{TypedNames}
+use Rattle.strc_semantics.specs.Typing.{TypedNames}
 use Rattle.strc_statements.specs.Bindings.{Bindings, with_cells}
 use Rattle.strc_statements.proofs.Slots.{bound, one_declared, kept_declared}
 use Rattle.strc_statements.proofs.variables.Variables.declare.Goals as goal

@@ -2,8 +2,8 @@
 use Rattle.std.specs.Prelude.{ℕ, ◌-◌, Bool, true, false, List, [], ◌∷◌, length, take}
 use Rattle.strc_syntax.specs.Tree as tree
 use Rattle.strc_base.specs.Names.{plain_names}
-use Rattle.strc_check.specs.declared.types.ValueType.{ValueType}
-use Rattle.strc_check.specs.declared.types.ValueType.TheVariants.{Int, Boolean, Array}
+use Rattle.strc_semantics.specs.declared.types.ValueType.{ValueType}
+use Rattle.strc_semantics.specs.declared.types.ValueType.TheVariants.{Int, Boolean, Array}
 
 -- the names that can be seen, each with its type, the innermost first
 abbrev pub TypedNames : Type 0

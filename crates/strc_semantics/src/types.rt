@@ -2,7 +2,7 @@
 
 ghost use Rattle.std.specs.Prelude.{◌≡◌};
 ghost use Rattle.strc_syntax.specs.View.{type_view};
-ghost use Rattle.strc_check.specs.Typing as typing;
+ghost use Rattle.strc_semantics.specs.Typing as typing;
 
 use strc_syntax::tree::VariableType;
 

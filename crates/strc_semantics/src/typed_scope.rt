@@ -26,7 +26,7 @@ impl Drop for TypedScope {
 
 impl Model for TypedScope {
     ghost use Rattle.std.specs.Prelude.{List, ℕ};
-    ghost use Rattle.strc_check.specs.declared.types.ValueType.{ValueType as Kind};
+    ghost use Rattle.strc_semantics.specs.declared.types.ValueType.{ValueType as Kind};
 
     ghost Value = { List (List ℕ × Kind) };
 

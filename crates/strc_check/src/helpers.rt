@@ -1,0 +1,88 @@
+// The rules on helper functions.
+
+ghost use Rattle.std.specs.Prelude.{◌≡◌, ℕ, List, OnOk, ◌∷◌, IfOk};
+ghost use Rattle.strc_syntax.specs.View.{member_view, block_view};
+ghost use Rattle.strc_semantics.specs.declared.types.ValueType.TheVariants.{Int};
+ghost use Rattle.strc_check.specs.Signatures.{with_parameters};
+ghost use Rattle.strc_check.specs.Resolution as judged;
+ghost use Rattle.strc_check.specs.Verdicts.{IsVerdict, NameList};
+
+use crate::error::LowerError;
+use crate::kept::push_next;
+use crate::signatures::Signature;
+use crate::site::Mismatch;
+use crate::{context, statement_rules};
+use std::alloc::Global;
+use strc_base::name::Name;
+use strc_base::scope::Scope;
+use strc_base::scope_map::ScopeMap;
+use strc_semantics::constants::Constants;
+use strc_semantics::typed_scope::TypedScope;
+use strc_semantics::types::ValueType;
+use strc_syntax::tree::{HelperType, Member, Stmt};
+
+/// A helper function, whose name no earlier one has. Its parameters are inside the fields.
+pub(crate) fn resolve_helper(
+    alloc: Global,
+    constants: &Constants,
+    helpers: &ScopeMap<Signature>,
+    fields: &mut TypedScope,
+    known: &mut Scope,
+    kind: HelperType,
+    name: &Name,
+    parameters: &[Name],
+    block: &[Stmt],
+) -> Result<Member, LowerError>
+    ensures verdict { IsVerdict member_view
+        (judged.helper_resolved constants.now helpers.now fields.old known.old kind name.now
+        parameters.now (block_view block.now))
+        result }
+    ensures fields { OnOk result (fields.new ≡ fields.old) }
+    ensures known { OnOk result (known.new ≡ name.now ∷ known.old) }
+{
+    if known.has(name) {
+        return Err(LowerError::mismatch(Mismatch::DeclaredTwice));
+    }
+    let context = context::helper_context(constants, helpers, kind);
+    let start = fields.len();
+    let parameters = resolve_parameters(alloc, fields, start, parameters)?;
+    let block = statement_rules::resolve_block(alloc, &context, fields, block)?;
+    fields.leave(start);
+    known.declare(name)?;
+    let name = name.copy()?;
+    Ok(Member::Helper(kind, name, parameters, block))
+}
+
+/// The parameters of a helper function, which are numbers.
+fn resolve_parameters(
+    alloc: Global,
+    names: &mut TypedScope,
+    start: usize,
+    parameters: &[Name],
+) -> Result<Vec<Name>, LowerError>
+    ensures verdict { IsVerdict (λ (resolved : NameList). resolved.items)
+        (judged.parameters_resolved names.old start parameters.now) result }
+    ensures names { OnOk result (names.new ≡ with_parameters names.old parameters.now) }
+{
+    let mut resolved = Vec::new(alloc);
+    for parameter in parameters {
+        let next = resolve_parameter(names, start, parameter);
+        push_next(&mut resolved, next)?;
+    }
+    Ok(resolved)
+}
+
+/// A parameter, whose name no earlier one has.
+fn resolve_parameter(names: &mut TypedScope, start: usize, name: &Name) -> Result<Name, LowerError>
+    ensures verdict { IsVerdict (λ (name : List ℕ). name)
+        (judged.parameter_resolved names.old start name.now) result }
+    ensures names { OnOk result (names.new ≡ record { 0 = name.now; 1 = Int } ∷ names.old) }
+{
+    if statement_rules::is_taken(names, start, name) {
+        let twice = LowerError::mismatch(Mismatch::DeclaredTwice);
+        return Err(twice.or_at(name.place()));
+    }
+    names.declare(name, ValueType::Int)?;
+    let name = name.copy()?;
+    Ok(name)
+}

@@ -1,0 +1,38 @@
+// Calls of helper functions in lowered code.
+
+ghost use Rattle.std.specs.Prelude.{◌≡◌, ◌+◌, max, IfOk};
+
+use crate::inst::after;
+use strc_base::memory::NoMemory;
+use strc_base::name::Name;
+
+/// A call of a helper function: its name, the first slot of its arguments, how many there are, and
+/// the slot of its value.
+#[derive(Drop)]
+pub struct Call {
+    pub name: Name,
+    pub first: u32,
+    pub count: u32,
+    pub into: u32,
+}
+
+impl Call {
+    /// How many slots the call needs.
+    pub fn slot_count(&self) -> usize
+        ensures { result ≡ max (self.now.into + 1) (self.now.first + self.now.count) }
+    {
+        after(self.into).max(self.first as usize + self.count as usize)
+    }
+
+    /// An equal call.
+    pub fn copy(&self) -> Result<Call, NoMemory>
+        ensures { IfOk result (λ copy. copy ≡ self.now) }
+    {
+        Ok(Call {
+            name: self.name.copy()?,
+            first: self.first,
+            count: self.count,
+            into: self.into,
+        })
+    }
+}

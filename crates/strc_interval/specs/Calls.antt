@@ -1,0 +1,66 @@
+-- Which calls a text has: whether one of them is of such a function.
+use Rattle.std.specs.Prelude.{ℕ, Bool, false, ◌||◌, List, [], ◌∷◌, Option, Some, None}
+use Rattle.strc_syntax.specs.Tree as tree
+
+abbrev mutual
+  pub expr_calls_one : (such : List ℕ → Bool) → tree.Expr → Bool
+  expr_calls_one such (tree.Number value) = false
+  expr_calls_one such (tree.Truth value) = false
+  expr_calls_one such (tree.Read read) = false
+  expr_calls_one such (tree.Element array index) = expr_calls_one such index
+  expr_calls_one such tree.Pop = false
+  expr_calls_one such (tree.Peek index) = expr_calls_one such index
+  expr_calls_one such (tree.Call called arguments) =
+      such called || arguments_call_one such arguments
+  expr_calls_one such (tree.Group inner) = expr_calls_one such inner
+  expr_calls_one such (tree.Unary operator operand) = expr_calls_one such operand
+  expr_calls_one such (tree.Step operator stepped) = false
+  expr_calls_one such (tree.StepElement operator array index) = expr_calls_one such index
+  expr_calls_one such (tree.Binary operator left right) =
+      expr_calls_one such left || expr_calls_one such right
+  expr_calls_one such (tree.Conditional condition chosen other) =
+      expr_calls_one such condition || (expr_calls_one such chosen || expr_calls_one such other)
+
+  pub arguments_call_one : (such : List ℕ → Bool) → tree.Arguments → Bool
+  arguments_call_one such tree.NoArgument = false
+  arguments_call_one such (tree.Argument first rest) =
+      expr_calls_one such first || arguments_call_one such rest
+
+abbrev pub option_calls_one : (such : List ℕ → Bool) → Option tree.Expr → Bool
+option_calls_one such None = false
+option_calls_one such (Some value) = expr_calls_one such value
+
+abbrev pub variables_call_one : (such : List ℕ → Bool) → List tree.Variable → Bool
+variables_call_one such [] = false
+variables_call_one such (first ∷ rest) =
+    option_calls_one such first.initial || variables_call_one such rest
+
+abbrev mutual
+  pub stmt_calls_one : (such : List ℕ → Bool) → tree.Stmt → Bool
+  stmt_calls_one such tree.Empty = false
+  stmt_calls_one such (tree.Compose statement) = false
+  stmt_calls_one such (tree.Block body) = stmts_call_one such body
+  stmt_calls_one such (tree.Declare kind variables) = variables_call_one such variables
+  stmt_calls_one such (tree.Evaluate value) = expr_calls_one such value
+  stmt_calls_one such (tree.Assign assigned operator value) = expr_calls_one such value
+  stmt_calls_one such (tree.AssignElement array index operator value) =
+      expr_calls_one such index || expr_calls_one such value
+  stmt_calls_one such (tree.If condition chosen) =
+      expr_calls_one such condition || stmt_calls_one such chosen
+  stmt_calls_one such (tree.IfElse condition chosen other) =
+      expr_calls_one such condition || (stmt_calls_one such chosen || stmt_calls_one such other)
+  stmt_calls_one such (tree.While condition body) =
+      expr_calls_one such condition || stmt_calls_one such body
+  stmt_calls_one such (tree.For first condition step body) =
+      stmt_calls_one such first
+      || (option_calls_one such condition
+      || (stmt_calls_one such step || stmt_calls_one such body))
+  stmt_calls_one such (tree.Push value) = expr_calls_one such value
+  stmt_calls_one such (tree.Print value) = expr_calls_one such value
+  stmt_calls_one such (tree.Println value) = expr_calls_one such value
+  stmt_calls_one such (tree.Return value) = option_calls_one such value
+
+  pub stmts_call_one : (such : List ℕ → Bool) → tree.Stmts → Bool
+  stmts_call_one such tree.Done = false
+  stmts_call_one such (tree.Then first rest) =
+      stmt_calls_one such first || stmts_call_one such rest

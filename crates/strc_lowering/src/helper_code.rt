@@ -1,0 +1,97 @@
+// The code of helper functions.
+
+ghost use Rattle.std.specs.Prelude.{◌≡◌, IfOk, OnOk};
+ghost use Rattle.strc_syntax.specs.View.{block_view, member_view};
+ghost use Rattle.strc_semantics.specs.Filters.{members_of};
+ghost use Rattle.strc_semantics.specs.Scoping.{with_parameters};
+ghost use Rattle.strc_code.specs.Helpers.{IsHelper, IsHelperOf, AreHelpers};
+
+use crate::builder::Builder;
+use crate::layout::Layout;
+use crate::linearize::linearize;
+use crate::statement_code::emit_block;
+use std::alloc::Global;
+use strc_base::memory::NoMemory;
+use strc_base::name::Name;
+use strc_code::helper::HelperCode;
+use strc_syntax::tree::{Member, Stmt};
+
+/// The code of the helper functions among members, in order.
+pub fn emit_helpers(
+    alloc: Global,
+    names: &mut Layout,
+    members: &[Member],
+) -> Result<Vec<HelperCode>, NoMemory>
+    ensures codes { IfOk result (λ codes. AreHelpers names.old (members_of members.now)
+        codes.items) }
+    ensures names { OnOk result (names.new ≡ names.old) }
+{
+    let mut codes = Vec::new(alloc);
+    for member in members {
+        if let Some(code) = emit_member(alloc, names, member)? {
+            codes.push(code)?;
+        }
+    }
+    Ok(codes)
+}
+
+/// The code of a member that is a helper function.
+fn emit_member(
+    alloc: Global,
+    names: &mut Layout,
+    member: &Member,
+) -> Result<Option<HelperCode>, NoMemory>
+    ensures code { IfOk result (λ found. IsHelperOf names.old (member_view member.now) found) }
+    ensures names { OnOk result (names.new ≡ names.old) }
+{
+    match member {
+        Member::Helper(_, name, parameters, block) => {
+            let code = emit_helper(alloc, names, name, parameters, block)?;
+            Ok(Some(code))
+        }
+        Member::Fields(_) | Member::Init(_) | Member::Prework(_, _) | Member::Work(_, _) => {
+            Ok(None)
+        }
+    }
+}
+
+/// The code of a helper function: its variables are its parameters, inside its answer.
+fn emit_helper(
+    alloc: Global,
+    names: &mut Layout,
+    name: &Name,
+    parameters: &[Name],
+    block: &[Stmt],
+) -> Result<HelperCode, NoMemory>
+    ensures code { IfOk result (λ code. IsHelper names.old name.now parameters.now
+        (block_view block.now) code) }
+    ensures names { OnOk result (names.new ≡ names.old) }
+{
+    let start = names.len();
+    let answer = Name::new(Vec::new(alloc));
+    names.declare(&answer, 2)?;
+    declare_parameters(names, parameters)?;
+    let variables = names.total() as usize;
+    let mut code = Builder::new(alloc);
+    emit_block(&mut code, names, block)?;
+    names.leave(start);
+    let block = code.finish()?;
+    let flat = linearize(alloc, &block)?;
+    let slots = variables.max(block.slot_count());
+    Ok(HelperCode {
+        name: name.copy()?,
+        parameters: parameters.len(),
+        flat,
+        slots,
+    })
+}
+
+/// More variables, each a number, the last one innermost.
+fn declare_parameters(names: &mut Layout, parameters: &[Name]) -> Result<(), NoMemory>
+    ensures { OnOk result (names.new ≡ with_parameters names.old parameters.now) }
+{
+    for parameter in parameters {
+        names.declare(parameter, 1)?;
+    }
+    Ok(())
+}

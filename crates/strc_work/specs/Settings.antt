@@ -1,0 +1,19 @@
+-- The setting in which lowered code runs.
+use Rattle.std.specs.Prelude.{ℕ, List, length}
+use Rattle.strc_syntax.specs.Tree as tree
+use Rattle.strc_semantics.specs.Filters.{sized_fields}
+use Rattle.strc_semantics.specs.Scoping.{total}
+use Rattle.strc_semantics.specs.Firing.{Port, Setting, called, no_helper}
+
+-- where no call is run
+abbrev pub uncalled : Port → Setting
+uncalled port = record { port = port; fields = 0; cells = 0; call = no_helper }
+
+-- where the code of a filter of these members stands, and so many more calls may be running at once
+abbrev pub level_setting : List tree.Member → (levels : ℕ) → Port → Setting
+level_setting members levels port = record {
+  port = port;
+  fields = length (sized_fields members);
+  cells = total (sized_fields members);
+  call = called members levels;
+}
