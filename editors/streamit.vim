@@ -6,8 +6,8 @@ endif
 syntax keyword streamitType int boolean void
 syntax keyword streamitConstant true false
 syntax keyword streamitStructure filter pipeline splitjoin feedbackloop Identity FileReader FileWriter
-syntax keyword streamitError break continue do return float complex bit struct portal
-syntax keyword streamitKeyword init prework work push pop peek add split join duplicate roundrobin body loop enqueue if else while for print println
+syntax keyword streamitError break continue do float complex bit struct portal
+syntax keyword streamitKeyword init prework work push pop peek add split join duplicate roundrobin body loop enqueue if else while for print println return
 syntax match streamitNumber /\<\d\+\>/
 syntax region streamitString start=/"/ end=/"/ oneline
 syntax match streamitComment +//.*$+

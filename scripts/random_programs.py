@@ -1,6 +1,7 @@
 """Random programs of the whole language, by its grammar: filters with parameters, fields, arrays,
-truth values, windows, preworks and prints; pipelines, split-joins and feedback loops in one
-another, whose bodies have loops, branches and recursion; several tapes; faults of each cause.
+truth values, windows, preworks, prints and helper functions; pipelines, split-joins and feedback
+loops in one another, whose bodies have loops, branches and recursion; several tapes; faults of each
+cause.
 
 Rates agree, so that most programs come to a run. The same dice give the same program.
 """
@@ -17,15 +18,28 @@ NUMBERS = ["0", "1", "2", "3", "7", "100", "65536", "2147483647", "2147483648", 
 
 
 @dataclass
+class Helper:
+    """A helper function: what it gives, `int`, `boolean` or `void`, and its parameters."""
+
+    name: str
+    kind: str
+    parameters: list
+
+
+@dataclass
 class Scope:
     """What can be named at a place: numbers, which of them can be written, truth values, arrays
-    with their lengths, and how many items of the window are left."""
+    with their lengths, helper functions, and how many items of the window are left."""
 
     numbers: list = field(default_factory=list)
     variables: list = field(default_factory=list)
     truths: list = field(default_factory=list)
     arrays: list = field(default_factory=list)
+    helpers: list = field(default_factory=list)
     window: int = 0
+
+    def that_give(self, kind):
+        return [it for it in self.helpers if it.kind == kind]
 
     def inner(self, **changes):
         lists = {it: [*getattr(self, it)] for it in ["numbers", "variables", "truths", "arrays"]}
@@ -81,9 +95,17 @@ class Bodies:
             return self.dice.choice([*NUMBERS, str(self.dice.randint(0, 99))])
         return self.dice.choice(scope.numbers)
 
+    def call(self, scope, kind, depth):
+        """A call of a helper function that gives this, of which there is one."""
+        helper = self.dice.choice(scope.that_give(kind))
+        given = [self.number(scope, max(0, depth)) for _ in helper.parameters]
+        return f"{helper.name}({', '.join(given)})"
+
     def number(self, scope, depth):
         """An expression of type int."""
         dice = self.dice
+        if depth > 0 and scope.that_give("int") and self.chance(0.2):
+            return self.call(scope, "int", depth - 1)
         if scope.window and self.chance(0.3):
             return f"peek({self.index(scope, scope.window, 0)})"
         if depth == 0 or self.chance(0.2):
@@ -114,6 +136,8 @@ class Bodies:
     def truth(self, scope, depth):
         """An expression of type boolean."""
         dice = self.dice
+        if depth > 0 and scope.that_give("boolean") and self.chance(0.3):
+            return self.call(scope, "boolean", depth - 1)
         if scope.truths and self.chance(0.3):
             return dice.choice(scope.truths)
         if depth == 0 or self.chance(0.5):
@@ -121,7 +145,7 @@ class Bodies:
             return f"({left} {dice.choice(COMPARISONS)} {right})"
         left, right = self.truth(scope, depth - 1), self.truth(scope, depth - 1)
         if self.chance(0.2):
-            return f"!{left}" if left.startswith("(") else dice.choice(["true", "false"])
+            return f"!{left}" if left.startswith(("(", "h")) else dice.choice(["true", "false"])
         return f"({left} {dice.choice(['&&', '||', '==', '!='])} {right})"
 
     def assignment(self, scope):
@@ -180,6 +204,8 @@ class Bodies:
     def statement(self, scope, depth):
         """A statement that moves no item."""
         kind = self.dice.random()
+        if scope.helpers and self.chance(0.1):
+            return f"{self.call(scope, self.dice.choice(scope.helpers).kind, 1)};"
         if depth == 0 or kind < 0.5:
             return self.assignment(scope)
         if kind < 0.65:
@@ -207,6 +233,11 @@ class Filters(Bodies):
         if count > 1 and self.chance(0.7):
             into = f"{dice.choice(scope.variables)} += pop();" if scope.variables else "pop();"
             return count, f"for (int k = 0; k < {count}; k++) {into}"
+        calls = [it for it in scope.that_give("int") if 0 < len(it.parameters) <= left]
+        if calls and self.chance(0.3):
+            helper = dice.choice(calls)
+            given = ", ".join("pop()" for _ in helper.parameters)
+            return len(helper.parameters), f"int {self.name('p')} = {helper.name}({given});"
         if self.chance(0.3):
             return 1, "pop();"
         if self.chance(0.3):
@@ -296,10 +327,57 @@ class Filters(Bodies):
             lines.append(f"init {self.block(scope.inner(), 2)}")
         return " ".join(lines)
 
+    def signatures(self):
+        """A few helper functions without their bodies; mostly none."""
+        found = []
+        for _ in range(self.dice.choice([0, 0, 0, 1, 2, 3])):
+            name, kind = self.name("h"), self.dice.choice(["int", "int", "boolean", "void"])
+            parameters = [self.name("m") for _ in range(self.dice.randint(0, 3))]
+            found.append(Helper(name, kind, parameters))
+        return found
+
+    def returned(self, scope, kind):
+        if kind == "void":
+            return "return;"
+        value = self.number(scope, 2) if kind == "int" else self.truth(scope, 2)
+        return f"return {value};"
+
+    def again(self, scope, helper):
+        """A statement that calls the helper function itself a few times; at a risk without end."""
+        given = [self.number(scope, 1) for _ in helper.parameters[1:]]
+        if not helper.parameters:
+            return f"if ({self.truth(scope, 1)}) {helper.name}();" if self.chance(self.risk) else ";"
+        left = helper.parameters[0]
+        limit = "" if self.chance(self.risk) else f" && {left} < {self.dice.randint(1, 9)}"
+        call = f"{helper.name}({', '.join([f'{left} - 1', *given])})"
+        if helper.kind == "void" or self.chance(0.3):
+            return f"if ({left} > 0{limit}) {call};"
+        if helper.kind == "boolean":
+            return f"if ({left} > 0{limit}) return !{call};"
+        return f"if ({left} > 0{limit}) return {call} {self.dice.choice(ARITHMETIC)} {left};"
+
+    def helper(self, scope, helper, before):
+        """A helper function, which may call those before it, and itself."""
+        inner = scope.inner(helpers=before)
+        inner.numbers.extend(helper.parameters)
+        inner.variables.extend(helper.parameters)
+        lines = [self.again(inner, helper)] if self.chance(0.4) else []
+        lines.append(self.statements(inner, 2, 2))
+        if self.chance(0.4):
+            lines.append(f"if ({self.truth(inner, 1)}) {{ {self.returned(inner, helper.kind)} }}")
+            lines.append(self.statements(inner, 1, 2))
+        if self.chance(0.7):
+            lines.append(self.returned(inner, helper.kind))
+        parameters = ", ".join(f"int {it}" for it in helper.parameters)
+        body = " ".join(filter(None, lines))
+        return f"{helper.kind} {helper.name}({parameters}) {{ {body} }}"
+
     def members(self, pop, push, constants, plain=False, prints=False):
         """The members of a filter; None is a side without items. A plain one starts by itself."""
-        scope = Scope(numbers=[*constants])
+        scope = Scope(numbers=[*constants], helpers=self.signatures())
         text = self.fields(scope)
+        for place, it in enumerate(scope.helpers):
+            text += " " + self.helper(scope, it, scope.helpers[:place])
         rates = push or 0, pop or 0
         more = 0 if plain or not pop or self.chance(0.6) else self.dice.randint(1, 5)
         window = rates[1] + more

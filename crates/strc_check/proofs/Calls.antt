@@ -8,7 +8,7 @@ use Rattle.strc_syntax.specs.declared.tree.Expr.{Expr, Call}
 use Rattle.strc_syntax.specs.declared.tree.HelperType.{HelperType}
 use Rattle.strc_check.specs.declared.error.LowerError.{LowerError}
 use Rattle.strc_semantics.specs.Typing.{TypedNames}
-use Rattle.strc_check.specs.Signatures.{argument_count}
+use Rattle.strc_semantics.specs.Calls.{argument_count}
 use Rattle.strc_check.specs.Resolution as judged
 use Rattle.strc_check.specs.Verdicts.{IsRefusal}
 use Rattle.strc_syntax.proofs.Calls.{expr_view-Call}

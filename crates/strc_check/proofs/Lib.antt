@@ -2,6 +2,7 @@ pub mod TypedGrowth
 pub mod Members
 pub mod Resolved
 pub mod ResolvingExpressions
+pub mod Unanswered
 pub mod ResolvingStatements
 pub mod Resolving
 pub mod FixedRates

@@ -4,7 +4,7 @@ use Rattle.std.proofs.Common.{◌∙◌, ◌⊎◌, inl, inr, subst, suc, length
 use Rattle.std.proofs.Common.{add-one}
 use Rattle.std.proofs.Math.Seq.{drop-cons}
 use Rattle.strc_semantics.specs.declared.types.ValueType.TheVariants.{Int}
-use Rattle.strc_check.specs.Signatures.{argument_count}
+use Rattle.strc_semantics.specs.Calls.{argument_count}
 use Rattle.std.proofs.lemmas.List.{append_assoc}
 use Rattle.strc_base.specs.Results.{result_and_then}
 use Rattle.strc_syntax.specs.Tree as tree

@@ -13,7 +13,7 @@ use Rattle.strc_semantics.specs.Filters.{Filter, declared_names, field_names, si
 use Rattle.strc_semantics.specs.Filters.{sized_fields}
 use Rattle.strc_semantics.specs.Scoping as plain
 use Rattle.strc_semantics.specs.Scoping.{Scope, cells_of, answer_name, helper_scope}
-use Rattle.strc_semantics.specs.Returns.{names_hide}
+use Rattle.strc_semantics.specs.Returns.{names_shadow}
 use Rattle.strc_syntax.specs.declared.tree.HelperType.{HelperType}
 use Rattle.strc_semantics.specs.declared.types.ValueType.TheVariants.{Int}
 use Rattle.strc_semantics.specs.Typing as typing
@@ -21,7 +21,7 @@ use Rattle.strc_semantics.specs.Typing.{TypedNames, type_of, names_with, names_a
 use Rattle.strc_check.specs.Resolution.{Context, Work, type_resolved, initial_resolved}
 use Rattle.strc_check.specs.Resolution.{start_context, helper_context, body_context}
 use Rattle.strc_check.specs.Resolution.{rates_resolved, field_resolved, parameter_resolved}
-use Rattle.strc_check.specs.Resolution.{is_taken}
+use Rattle.strc_check.specs.Resolution.{is_taken, is_field_taken}
 use Rattle.strc_check.specs.Resolution.{parameters_resolved, helper_resolved, known_after}
 use Rattle.strc_check.specs.Signatures.{Signatures, signatures_after, with_parameters}
 use Rattle.strc_check.specs.Resolution.{fields_resolved, fields_after, body_resolved, work_resolved}
@@ -31,10 +31,11 @@ use Rattle.strc_semantics.specs.Closed.{IsNamed, AreClosedFields, AreClosed, IsC
 use Rattle.strc_semantics.specs.Closed.{AreClosedMembers, IsClosedFilter, IsClosedBody}
 use Rattle.strc_base.proofs.Scopes.{bytes_eq_same}
 use Rattle.strc_check.proofs.ResolvingExpressions.{Gives, then_gives, any_gives, kept_gives, Sees}
+use Rattle.strc_check.proofs.ResolvingExpressions.{NoneAnswers, neither}
 use Rattle.strc_check.proofs.ResolvingExpressions.{named_in, plain_declared, names_more, sees_more}
 use Rattle.strc_check.proofs.ResolvingStatements.{FitsType, FitsDeclared, type_gives}
 use Rattle.strc_check.proofs.ResolvingStatements.{IsLikeVariable, initial_like, stmts_gives}
-use Rattle.strc_check.proofs.ResolvingStatements.{AreLike, kept_known, not_answer}
+use Rattle.strc_check.proofs.ResolvingStatements.{AreLike, kept_known, not_first, not_answer}
 
 -- the names of fields are among these
 abbrev AreNamedFields : List (List ℕ) → List tree.Variable → Type 0
@@ -59,7 +60,7 @@ field_gives : (context : Context) (scope : Scope) (fields : TypedNames) (before 
     cells → Gives (IsLikeVariable scope cells variable)
     (field_resolved context fields before kind variable)
 field_gives context scope fields before kind cells variable sees fits =
-    kept_gives (IsLikeVariable scope cells variable) (not (has_name before variable.name))
+    kept_gives (IsLikeVariable scope cells variable) (not (is_field_taken before variable.name))
     (result_and_then (initial_resolved context fields kind variable.initial)
     (λ i. Ok (record { name = variable.name; initial = i })))
     (initial_like context scope fields kind cells variable sees fits)
@@ -99,10 +100,10 @@ seen_in : (scope : Scope) (names : TypedNames) → SameNames scope names → (na
 seen_in scope names same name there = named_in scope (plain_names names) name same there
 
 work_gives : (constants : List (List ℕ × ℤ)) (helpers : Signatures) (input output : ItemType)
-    (scope : Scope) (fields : TypedNames) (work : Work) → SameNames scope fields → Gives
-    (λ (work' : Work). IsClosedBody scope work'.block)
+    (scope : Scope) (fields : TypedNames) (work : Work) → SameNames scope fields
+    → NoneAnswers fields → Gives (λ (work' : Work). IsClosedBody scope work'.block)
     (work_resolved constants helpers input output fields work)
-work_gives constants helpers input output scope fields work same =
+work_gives constants helpers input output scope fields work same none =
     let context = body_context constants helpers input output in
     let closed : Work → Type 0 = λ work'. IsClosedBody scope work'.block in
     any_gives closed (rates_resolved constants fields input output work.rates)
@@ -110,37 +111,47 @@ work_gives constants helpers input output scope fields work same =
     (λ b. Ok (record { rates = r; block = b }))) (λ r.
     then_gives (AreLike context scope) closed (body_resolved context fields work.block)
     (λ b. Ok (record { rates = r; block = b }))
-    (stmts_gives context scope fields (length fields) work.block (seen_in scope fields same, tt))
+    (stmts_gives context scope fields (length fields) work.block
+    (seen_in scope fields same, tt, none))
     (λ b h. record { 0 = h.0; 1 = h.1.0 refl; 2 = h.1.2 }))
 
--- parameters are seen inside the names around them
+not_other : (a b : Bool) → (a || b) ≡ false → a ≡ false
+not_other true b e = e
+not_other false b e = refl
+
+not_second : (a b : Bool) → (a || b) ≡ false → b ≡ false
+not_second true b e = absurd (cc)
+not_second false b e = e
+
+-- parameters are seen inside the names around them, where none of them has the answer's name
 sees_parameters : (context : Context) (scope : Scope) (names : TypedNames)
-    (parameters : List (List ℕ)) → Sees context scope names
+    (parameters : List (List ℕ)) → names_shadow parameters ≡ false → Sees context scope names
     → Sees context (plain.with_parameters scope parameters) (with_parameters names parameters)
-sees_parameters context scope names [] sees = sees
-sees_parameters context scope names (first ∷ rest) sees =
+sees_parameters context scope names [] none sees = sees
+sees_parameters context scope names (first ∷ rest) none sees =
     sees_parameters context (record { 0 = first; 1 = 1 } ∷ scope)
     (record { 0 = first; 1 = Int } ∷ names) rest
-    (sees_more context scope names first first 1 Int refl sees)
+    (not_second (bytes_eq first answer_name) (names_shadow rest) none)
+    (sees_more context scope names first first 1 Int refl
+    (not_other (bytes_eq first answer_name) (names_shadow rest) none) sees)
 
 -- in a helper function's block its parameters and the fields are seen, and its answer
 sees_helper : (constants : List (List ℕ × ℤ)) (helpers : Signatures) (kind : HelperType)
     (scope : Scope) (fields : TypedNames) (parameters : List (List ℕ)) → SameNames scope fields
+    → NoneAnswers fields → names_shadow parameters ≡ false
     → Sees (helper_context constants helpers kind) (helper_scope scope parameters)
     (with_parameters fields parameters)
-sees_helper constants helpers kind scope fields parameters same =
+sees_helper constants helpers kind scope fields parameters same none shadowed =
     sees_parameters (helper_context constants helpers kind)
-    (record { 0 = answer_name; 1 = 2 } ∷ scope) fields parameters (
+    (record { 0 = answer_name; 1 = 2 } ∷ scope) fields parameters shadowed (
       names_more scope answer_name 2 (plain_names fields) (seen_in scope fields same),
       refl,
+      none,
     )
 
 -- parameters are accepted as they are, where none of them has the name of the answer
 abbrev AreParameters : List (List ℕ) → List (List ℕ) → Type 0
-AreParameters parameters given = (given ≡ parameters) × (names_hide given ≡ false)
-
-neither : (a b : Bool) → a ≡ false → b ≡ false → (a || b) ≡ false
-neither a b e f = ap (λ t. t || b) e ∙ f
+AreParameters parameters given = (given ≡ parameters) × (names_shadow given ≡ false)
 
 parameters_give : (names : TypedNames) (outer : ℕ) (parameters : List (List ℕ))
     → Gives (AreParameters parameters) (parameters_resolved names outer parameters)
@@ -157,15 +168,15 @@ parameters_give names outer (first ∷ rest) =
     (λ r. Ok (f ∷ r))
     (parameters_give (record { 0 = first; 1 = Int } ∷ names) outer rest) (λ r h'. (
       ap (λ n. n ∷ r) h.0 ∙ ap (λ l. first ∷ l) h'.0,
-      neither (bytes_eq f answer_name) (names_hide r) h.1 h'.1,
+      neither (bytes_eq f answer_name) (names_shadow r) h.1 h'.1,
     )))
 
 helper_gives : (constants : List (List ℕ × ℤ)) (helpers : Signatures) (scope : Scope)
     (fields : TypedNames) (known : List (List ℕ)) (kind : HelperType) (name : List ℕ)
     (parameters : List (List ℕ)) (block : tree.Stmts) → SameNames scope fields
-    → Gives (IsClosedMember scope)
+    → NoneAnswers fields → Gives (IsClosedMember scope)
     (helper_resolved constants helpers fields known kind name parameters block)
-helper_gives constants helpers scope fields known kind name parameters block same =
+helper_gives constants helpers scope fields known kind name parameters block same none =
     let context = helper_context constants helpers kind in
     let names = with_parameters fields parameters in
     let inner = helper_scope scope parameters in
@@ -180,21 +191,23 @@ helper_gives constants helpers scope fields known kind name parameters block sam
     (parameters_give fields (length fields) parameters) (λ p e.
     then_gives (AreLike context inner) closed resolved (λ b. Ok (tree.Helper kind name p b))
     (stmts_gives context inner names (length names) block
-    (sees_helper constants helpers kind scope fields parameters same))
+    (sees_helper constants helpers kind scope fields parameters same none
+    (ap names_shadow (sym e.0) ∙ e.1)))
     (λ b h. record {
       0 = subst (λ l. AreClosed (helper_scope scope l) b) (sym e.0) h.0;
       1 = h.1.1 refl;
       2 = e.1;
       3 = h.1.2;
+      4 = h.1.3;
     })))
 
 member_gives : (constants : List (List ℕ × ℤ)) (helpers : Signatures) (input output : ItemType)
     (scope : Scope) (fields : TypedNames) (before known : List (List ℕ)) (m : tree.Member)
-    → SameNames scope fields → IsNamedMember (plain_names fields) m
+    → SameNames scope fields → NoneAnswers fields → IsNamedMember (plain_names fields) m
     → Gives (IsClosedMember scope)
     (member_resolved constants helpers input output fields before known m)
 member_gives constants helpers input output scope fields before known
-    (tree.Fields kind variables) same named =
+    (tree.Fields kind variables) same none named =
     let context = start_context constants helpers in
     let closed = IsClosedMember scope in
     then_gives (FitsDeclared kind) closed (type_resolved constants fields kind)
@@ -204,40 +217,43 @@ member_gives constants helpers input output scope fields before known
     (fields_resolved context fields before t.kind variables)
     (λ v. Ok (tree.Fields t.written v))
     (fields_give context scope fields before t.kind (cells_of t.written) variables
-    (seen_in scope fields same, tt) fits.0 named) (λ v h. h))
+    (seen_in scope fields same, tt, none) fits.0 named) (λ v h. h))
 member_gives constants helpers input output scope fields before known (tree.Init block) same
-    named =
+    none named =
     let context = start_context constants helpers in
     then_gives (AreLike context scope) (IsClosedMember scope) (body_resolved context fields block)
     (λ b. Ok (tree.Init b))
-    (stmts_gives context scope fields (length fields) block (seen_in scope fields same, tt))
+    (stmts_gives context scope fields (length fields) block
+    (seen_in scope fields same, tt, none))
     (λ b h. record { 0 = h.0; 1 = h.1.0 refl; 2 = h.1.2 })
 member_gives constants helpers input output scope fields before known
-    (tree.Prework rates block) same named =
+    (tree.Prework rates block) same none named =
     let work : Work = record { rates = rates; block = block } in
     then_gives (λ (work' : Work). IsClosedBody scope work'.block) (IsClosedMember scope)
     (work_resolved constants helpers input output fields work)
     (λ w. Ok (tree.Prework w.rates w.block))
-    (work_gives constants helpers input output scope fields work same) (λ w h. h)
+    (work_gives constants helpers input output scope fields work same none) (λ w h. h)
 member_gives constants helpers input output scope fields before known (tree.Work rates block) same
-    named =
+    none named =
     let work : Work = record { rates = rates; block = block } in
     then_gives (λ (work' : Work). IsClosedBody scope work'.block) (IsClosedMember scope)
     (work_resolved constants helpers input output fields work)
     (λ w. Ok (tree.Work w.rates w.block))
-    (work_gives constants helpers input output scope fields work same) (λ w h. h)
+    (work_gives constants helpers input output scope fields work same none) (λ w h. h)
 member_gives constants helpers input output scope fields before known
-    (tree.Helper kind name parameters block) same named =
-    helper_gives constants helpers scope fields known kind name parameters block same
+    (tree.Helper kind name parameters block) same none named =
+    helper_gives constants helpers scope fields known kind name parameters block same none
 
 members_give : (constants : List (List ℕ × ℤ)) (helpers : Signatures) (input output : ItemType)
     (scope : Scope)
     (fields : TypedNames) (before known : List (List ℕ)) (ms : List tree.Member)
-    → SameNames scope fields →
-    AreNamedMembers (plain_names fields) ms → Gives (AreClosedMembers scope)
+    → SameNames scope fields → NoneAnswers fields
+    → AreNamedMembers (plain_names fields) ms → Gives (AreClosedMembers scope)
     (members_resolved constants helpers input output fields before known ms)
-members_give constants helpers input output scope fields before known [] sees named = tt
-members_give constants helpers input output scope fields before known (first ∷ rest) sees named =
+members_give constants helpers input output scope fields before known [] same none named =
+    tt
+members_give constants helpers input output scope fields before known (first ∷ rest) same none
+    named =
     let closed = AreClosedMembers scope in
     then_gives (IsClosedMember scope) closed
     (member_resolved constants helpers input output fields before known first)
@@ -245,41 +261,74 @@ members_give constants helpers input output scope fields before known (first ∷
     (members_resolved constants helpers input output fields (fields_after before first)
     (known_after known first) rest)
     (λ r. Ok (f ∷ r))) (member_gives constants helpers input output scope fields before known
-    first sees named.0) (λ f h.
+    first same none named.0) (λ f h.
     then_gives closed closed
     (members_resolved constants helpers input output fields (fields_after before first)
     (known_after known first) rest)
     (λ r. Ok (f ∷ r)) (members_give constants helpers input output scope fields
-    (fields_after before first) (known_after known first) rest sees named.1) (λ r h'. (h, h')))
+    (fields_after before first) (known_after known first) rest same none named.1)
+    (λ r h'. (h, h')))
 
--- variables of the same names
+-- fields of the same names, none of which is the answer's
 abbrev AreNamesakes : List tree.Variable → List tree.Variable → Type 0
-AreNamesakes variables variables' = declared_names variables' ≡ declared_names variables
+AreNamesakes variables variables' = (declared_names variables' ≡ declared_names variables)
+    × (has_name (declared_names variables) answer_name ≡ false)
+
+abbrev IsNamesake : tree.Variable → tree.Variable → Type 0
+IsNamesake variable variable' =
+    (variable'.name ≡ variable.name) × (bytes_eq variable.name answer_name ≡ false)
+
+namesake_gives : (context : Context) (fields : TypedNames) (before : List (List ℕ))
+    (kind : ValueType) (variable : tree.Variable) → Gives (IsNamesake variable)
+    (field_resolved context fields before kind variable)
+namesake_gives context fields before kind variable =
+    let initial = initial_resolved context fields kind variable.initial in
+    kept_known (IsNamesake variable) (not (is_field_taken before variable.name))
+    (result_and_then initial (λ i. Ok (record { name = variable.name; initial = i })))
+    (λ free. any_gives (IsNamesake variable) initial
+    (λ i. Ok (record { name = variable.name; initial = i }))
+    (λ i. (
+      refl,
+      not_first (bytes_eq variable.name answer_name) (has_name before variable.name)
+          free,
+    )))
 
 namesakes_give : (context : Context) (fields : TypedNames) (before : List (List ℕ))
     (kind : ValueType) (variables : List tree.Variable) → Gives (AreNamesakes variables)
     (fields_resolved context fields before kind variables)
-namesakes_give context fields before kind [] = refl
+namesakes_give context fields before kind [] = (refl, refl)
 namesakes_give context fields before kind (first ∷ rest) =
-    then_gives (λ (f : tree.Variable). f.name ≡ first.name) (AreNamesakes (first ∷ rest))
+    then_gives (IsNamesake first) (AreNamesakes (first ∷ rest))
     (field_resolved context fields before kind first)
     (λ f. result_and_then (fields_resolved context fields (first.name ∷ before) kind rest)
-    (λ r. Ok (f ∷ r))) named (λ f h.
+    (λ r. Ok (f ∷ r))) (namesake_gives context fields before kind first) (λ f h.
     then_gives (AreNamesakes rest) (AreNamesakes (first ∷ rest))
     (fields_resolved context fields (first.name ∷ before) kind rest) (λ r. Ok (f ∷ r))
-    (namesakes_give context fields (first.name ∷ before) kind rest) (λ r h'.
-    ap (λ n. n ∷ declared_names r) h ∙ ap (λ l. first.name ∷ l) h'))
-  where
-    same : tree.Variable → Type 0
-    same f = f.name ≡ first.name
+    (namesakes_give context fields (first.name ∷ before) kind rest) (λ r h'. (
+      ap (λ n. n ∷ declared_names r) h.0 ∙ ap (λ l. first.name ∷ l) h'.0,
+      neither (bytes_eq first.name answer_name) (has_name (declared_names rest) answer_name)
+          h.1 h'.1,
+    )))
 
-    named : Gives (λ (f : tree.Variable). f.name ≡ first.name)
-        (field_resolved context fields before kind first)
-    named =
-        let initial = initial_resolved context fields kind first.initial in
-        kept_gives same (not (has_name before first.name))
-        (result_and_then initial (λ i. Ok (record { name = first.name; initial = i })))
-        (any_gives same initial (λ i. Ok (record { name = first.name; initial = i })) (λ i. refl))
+-- a name that is among neither of these names is among none of them, in either order
+in_neither : (names others : List (List ℕ)) (name : List ℕ) → has_name names name ≡ false
+    → has_name others name ≡ false → has_name (names ++ others) name ≡ false
+in_neither [] others name e e' = e'
+in_neither (first ∷ rest) others name e e' =
+    neither (bytes_eq first name) (has_name (rest ++ others) name)
+    (not_other (bytes_eq first name) (has_name rest name) e)
+    (in_neither rest others name
+    (not_second (bytes_eq first name) (has_name rest name) e) e')
+
+in_turned : (names : List (List ℕ)) (name : List ℕ) → has_name names name ≡ false
+    → has_name (reverse names) name ≡ false
+in_turned [] name e = e
+in_turned (first ∷ rest) name e =
+    ap (λ l. has_name l name) (reverse-append (first ∷ []) rest)
+    ∙ in_neither (reverse rest) (first ∷ []) name
+    (in_turned rest name (not_second (bytes_eq first name) (has_name rest name) e))
+    (neither (bytes_eq first name) false
+    (not_other (bytes_eq first name) (has_name rest name) e) refl)
 
 -- the names alone of fields with their cells
 sized_names-all : (cells : ℕ) (variables : List tree.Variable) → plain_names
@@ -299,9 +348,10 @@ sized_names-reverse (first ∷ rest) =
     ∙ ap (λ l. l ++ first.0 ∷ []) (sized_names-reverse rest)
     ∙ sym (reverse-append (first.0 ∷ []) (plain_names rest))
 
--- members whose fields have the names of other ones'
+-- members whose fields have the names of other ones', none of which is the answer's
 abbrev pub HaveFields : List tree.Member → List tree.Member → Type 0
-HaveFields ms ms' = plain_names (sized_fields ms') ≡ field_names ms
+HaveFields ms ms' = (plain_names (sized_fields ms') ≡ field_names ms)
+    × (has_name (field_names ms) answer_name ≡ false)
 
 abbrev HasFields : tree.Member → tree.Member → Type 0
 HasFields m m' = (rest rest' : List tree.Member) → HaveFields rest rest' → HaveFields (m ∷ rest)
@@ -320,10 +370,13 @@ member_fields constants helpers input output fields before known (tree.Fields ki
     then_gives (AreNamesakes variables) has
     (fields_resolved context fields before t.kind variables)
     (λ v. Ok (tree.Fields t.written v))
-    (namesakes_give context fields before t.kind variables) (λ v h rest rest' same.
-    sized_names-append (sized_all (cells_of t.written) v) (sized_fields rest')
-    ∙ ap (λ l. l ++ plain_names (sized_fields rest')) (sized_names-all (cells_of t.written) v ∙ h)
-    ∙ ap (λ l. declared_names variables ++ l) same))
+    (namesakes_give context fields before t.kind variables) (λ v h rest rest' same. (
+      sized_names-append (sized_all (cells_of t.written) v) (sized_fields rest')
+          ∙ ap (λ l. l ++ plain_names (sized_fields rest'))
+          (sized_names-all (cells_of t.written) v ∙ h.0)
+          ∙ ap (λ l. declared_names variables ++ l) same.0,
+      in_neither (declared_names variables) (field_names rest) answer_name h.1 same.1,
+    )))
 member_fields constants helpers input output fields before known (tree.Init block) =
     any_gives (HasFields (tree.Init block))
     (body_resolved (start_context constants helpers) fields block)
@@ -353,7 +406,7 @@ members_fields : (constants : List (List ℕ × ℤ)) (helpers : Signatures) (in
     (fields : TypedNames)
     (before known : List (List ℕ)) (ms : List tree.Member) → Gives (HaveFields ms)
     (members_resolved constants helpers input output fields before known ms)
-members_fields constants helpers input output fields before known [] = refl
+members_fields constants helpers input output fields before known [] = (refl, refl)
 members_fields constants helpers input output fields before known (first ∷ rest) =
     then_gives (HasFields first) (HaveFields (first ∷ rest))
     (member_resolved constants helpers input output fields before known first)
@@ -448,11 +501,12 @@ AreLikeMembers ms ms' = AreClosedMembers (reverse (sized_fields ms')) ms' × Hav
 own_scope : (ms : List tree.Member) (fields : TypedNames)
     (r : Result (List tree.Member) LowerError) → plain_names fields ≡ reverse (field_names ms) →
     Gives (HaveFields ms) r →
-    ((scope : Scope) → SameNames scope fields → Gives (AreClosedMembers scope) r) → Gives
-    (AreLikeMembers ms) r
+    ((scope : Scope) → SameNames scope fields → NoneAnswers fields
+    → Gives (AreClosedMembers scope) r) → Gives (AreLikeMembers ms) r
 own_scope ms fields (Ok ms') names has closed = (
   closed (reverse (sized_fields ms'))
-      (sized_names-reverse (sized_fields ms') ∙ ap reverse has ∙ sym names),
+      (sized_names-reverse (sized_fields ms') ∙ ap reverse has.0 ∙ sym names)
+      (ap (λ l. has_name l answer_name) names ∙ in_turned (field_names ms) answer_name has.1),
   has,
 )
 own_scope ms fields (Err e) names has closed = tt
@@ -474,8 +528,8 @@ filter_gives constants filter =
     (λ ms'. Ok (record filter { members = ms' }))
     (own_scope ms fields resolved names
     (members_fields constants helpers filter.input filter.output fields [] [] ms)
-    (λ scope sees. members_give constants helpers filter.input filter.output scope fields [] [] ms
-    sees named)) (λ ms' h. h))
+    (λ scope same none. members_give constants helpers filter.input filter.output scope fields []
+    [] ms same none named)) (λ ms' h. h))
 
 -- the filter that the judgement gives is closed
 pub resolved_closed : (constants : List (List ℕ × ℤ)) (filter filter' : Filter) → filter_resolved
@@ -488,7 +542,7 @@ pub resolved_fields : (constants : List (List ℕ × ℤ)) (filter filter' : Fil
     constants filter ≡ Ok filter' → plain_names (sized_fields filter'.members) ≡ field_names
     filter.members
 resolved_fields constants filter filter' e =
-    (subst (Gives (IsLikeFilter filter)) e (filter_gives constants filter)).1
+    (subst (Gives (IsLikeFilter filter)) e (filter_gives constants filter)).1.0
 
 -- and its types
 pub resolved_types : (constants : List (List ℕ × ℤ)) (filter filter' : Filter) → filter_resolved

@@ -1,7 +1,7 @@
 -- The expressions that the judgement accepts are closed.
 use Rattle.std.proofs.Common.{◌≡◌, ℕ, Bool, true, false, ◌||◌, cond, not, ℤ}
 use Rattle.std.proofs.Common.{List, [], ◌∷◌, Option, Some, None, Result, Ok, Err}
-use Rattle.std.proofs.Common.{refl, ap, ◌∙◌}
+use Rattle.std.proofs.Common.{refl, sym, ap, ◌∙◌}
 use Rattle.std.specs.Prelude.{bytes_eq}
 use Rattle.strc_base.specs.Results.{result_and_then}
 use Rattle.strc_syntax.specs.Tree as tree
@@ -27,7 +27,8 @@ use Rattle.strc_check.specs.Resolution.{expr_as, initial_resolved}
 use Rattle.strc_check.specs.Resolution.{Called}
 use Rattle.strc_check.specs.Resolution.{called_among, call_given, value_called, called_typed}
 use Rattle.strc_check.specs.Resolution.{arguments_resolved, call_resolved, evaluated}
-use Rattle.strc_check.specs.Signatures.{given_type, argument_count}
+use Rattle.strc_check.specs.Signatures.{given_type}
+use Rattle.strc_semantics.specs.Calls.{argument_count}
 use Rattle.strc_semantics.specs.Closed.{IsNamed, IsClosed, AreClosedArguments, IsClosedInitial}
 
 -- a property of a result, where there is one
@@ -57,14 +58,23 @@ abbrev pub HasAnswer : Option HelperType → Scope → Type 0
 HasAnswer None scope = Unit {0}
 HasAnswer (Some kind) scope = IsNamed scope answer_name
 
--- a scope in which each of these names is declared, and in a helper function its answer
+-- a scope in which each of these names is declared
+abbrev pub SeesNames : Scope → TypedNames → Type 0
+SeesNames scope names = (name : List ℕ) → has_name (plain_names names) name ≡ true
+    → IsNamed scope name
+
+-- none of these names is the answer's
+abbrev pub NoneAnswers : TypedNames → Type 0
+NoneAnswers names = has_name (plain_names names) answer_name ≡ false
+
+-- a scope in which each of these names is declared, and in a helper function its answer, which is
+-- none of them
 abbrev pub Sees : Context → Scope → TypedNames → Type 0
 Sees context scope names =
-    ((name : List ℕ) → has_name (plain_names names) name ≡ true → IsNamed scope name)
-    × HasAnswer context.returns scope
+    SeesNames scope names × HasAnswer context.returns scope × NoneAnswers names
 
 -- whether a name is declared depends on the names alone
-declared_by_name : (scope : Scope) (name : List ℕ) → is_declared scope name ≡ has_name
+pub declared_by_name : (scope : Scope) (name : List ℕ) → is_declared scope name ≡ has_name
     (plain_names scope) name
 declared_by_name [] name = refl
 declared_by_name (first ∷ rest) name = ap (λ t. bytes_eq first.0 name || t)
@@ -96,17 +106,23 @@ answer_more None scope name cells h = tt
 answer_more (Some kind) scope name cells h =
     or_more (bytes_eq name answer_name) (is_declared scope answer_name) h
 
--- a variable inside others
+pub neither : (a b : Bool) → a ≡ false → b ≡ false → (a || b) ≡ false
+neither a b e f = ap (λ t. t || b) e ∙ f
+
+-- a variable inside others, which hasn't the answer's name
 pub sees_more : (context : Context) (scope : Scope) (names : TypedNames) (name name' : List ℕ)
-    (cells : ℕ) (kind : ValueType) → name' ≡ name → Sees context scope names
+    (cells : ℕ) (kind : ValueType) → name' ≡ name → bytes_eq name' answer_name ≡ false
+    → Sees context scope names
     → Sees context (record { 0 = name'; 1 = cells } ∷ scope)
     (record { 0 = name; 1 = kind } ∷ names)
-sees_more context scope names name name' cells kind same sees = (
-  λ q h. ap (λ n. bytes_eq n q || is_declared scope q) same
+sees_more context scope names name name' cells kind same other sees = record {
+  0 = λ q h. ap (λ n. bytes_eq n q || is_declared scope q) same
       ∙ or_as (bytes_eq name q) (has_name (plain_names names) q) (is_declared scope q) (sees.0 q)
-      h,
-  answer_more context.returns scope name' cells sees.1,
-)
+      h;
+  1 = answer_more context.returns scope name' cells sees.1;
+  2 = neither (bytes_eq name answer_name) (has_name (plain_names names) answer_name)
+      (ap (λ n. bytes_eq n answer_name) (sym same) ∙ other) sees.2;
+}
 
 -- the names alone after a declaration
 pub plain_declared : (names : TypedNames) (kind : ValueType) (variables : List tree.Variable) →
@@ -130,9 +146,9 @@ typed_name (first ∷ rest) name kind e = by_value (bytes_eq first.0 name) e
     by_value false e inner = inner e
 
 named_of_type : (context : Context) (scope : Scope) (names : TypedNames) (name : List ℕ)
-    (kind : ValueType) → Sees context scope names → value_named names name ≡ Some kind
+    (kind : ValueType) → SeesNames scope names → value_named names name ≡ Some kind
     → IsNamed scope name
-named_of_type context scope names name kind sees e = sees.0 name (typed_name names name kind e)
+named_of_type context scope names name kind sees e = sees name (typed_name names name kind e)
 
 -- a typed expression is closed
 abbrev IsClosedTyped : Scope → Typed → Type 0
@@ -144,7 +160,7 @@ constant_gives scope name None = tt
 constant_gives scope name (Some value) = tt
 
 name_gives : (context : Context) (scope : Scope) (names : TypedNames) (name : List ℕ)
-    (o : Option ValueType) → Sees context scope names → value_named names name ≡ o → Gives
+    (o : Option ValueType) → SeesNames scope names → value_named names name ≡ o → Gives
     (IsClosedTyped scope) (read_as context name o)
 name_gives context scope names name (Some kind) sees e =
     let read : Result Typed LowerError = Ok (record { kind = kind; value = tree.Read name }) in
@@ -156,7 +172,7 @@ name_gives context scope names name None sees e = constant_gives scope name
     (value_named context.constants name)
 
 pub write_gives : (context : Context) (scope : Scope) (names : TypedNames) (name : List ℕ)
-    (o : Option ValueType) → Sees context scope names → value_named names name ≡ o → Gives
+    (o : Option ValueType) → SeesNames scope names → value_named names name ≡ o → Gives
     (λ (kind : ValueType). IsNamed scope name) (write_as context name o)
 write_gives context scope names name (Some kind) sees e = named_of_type context scope names name
     kind sees e
@@ -164,7 +180,7 @@ write_gives context scope names name None sees e = tt
 
 -- a name of a variable that keeps a rule
 written_gives : (context : Context) (scope : Scope) (names : TypedNames) (name : List ℕ)
-    (rule : ValueType → Bool) → Sees context scope names → Gives (IsNamed scope)
+    (rule : ValueType → Bool) → SeesNames scope names → Gives (IsNamed scope)
     (where_kept (not context.constants_only)
     (result_and_then (write_resolved context names name)
     (λ kind. where_kept (rule kind) (Ok name))))
@@ -178,13 +194,13 @@ written_gives context scope names name rule sees =
     kept_gives (IsNamed scope) (rule kind) (Ok name) h))
 
 step_gives : (context : Context) (scope : Scope) (names : TypedNames) (name : List ℕ)
-    → Sees context scope
+    → SeesNames scope
     names → Gives (IsNamed scope) (step_resolved context names name)
 step_gives context scope names name sees = written_gives context scope names name
     (λ kind. same_type kind Int) sees
 
 pub array_gives : (context : Context) (scope : Scope) (names : TypedNames) (name : List ℕ)
-    → Sees context scope
+    → SeesNames scope
     names → Gives (IsNamed scope) (array_resolved context names name)
 array_gives context scope names name sees = written_gives context scope names name is_array sees
 
@@ -273,7 +289,7 @@ value_gives scope (Some kind) call h = h
 
 mutual
   expr_gives : (context : Context) (scope : Scope) (names : TypedNames) (e : tree.Expr)
-      → Sees context scope
+      → SeesNames scope
       names → Gives (IsClosedTyped scope) (expr_resolved context names e)
   expr_gives context scope names (tree.Number value) sees = tt
   expr_gives context scope names (tree.Truth value) sees = tt
@@ -339,7 +355,7 @@ mutual
       (λ o h''. conditional_gives scope c t o h h' h'')))
 
   arguments_give : (context : Context) (scope : Scope) (names : TypedNames)
-      (arguments : tree.Arguments) → Sees context scope names
+      (arguments : tree.Arguments) → SeesNames scope names
       → Gives (AreClosedArguments scope) (arguments_resolved context names arguments)
   arguments_give context scope names tree.NoArgument sees = tt
   arguments_give context scope names (tree.Argument first rest) sees =
@@ -357,14 +373,14 @@ mutual
 
 -- an expression that is a statement
 alone_gives : (context : Context) (scope : Scope) (names : TypedNames) (e : tree.Expr)
-    → Sees context scope names → Gives (IsClosed scope)
+    → SeesNames scope names → Gives (IsClosed scope)
     (result_and_then (expr_resolved context names e) (λ typed. Ok typed.value))
 alone_gives context scope names e sees =
     then_gives (IsClosedTyped scope) (IsClosed scope) (expr_resolved context names e)
     (λ typed. Ok typed.value) (expr_gives context scope names e sees) (λ typed h. h)
 
 pub evaluated_gives : (context : Context) (scope : Scope) (names : TypedNames) (e : tree.Expr)
-    → Sees context scope names → Gives (IsClosed scope) (evaluated context names e)
+    → SeesNames scope names → Gives (IsClosed scope) (evaluated context names e)
 evaluated_gives context scope names (tree.Call name arguments) sees =
     then_gives (IsClosedCalled scope) (IsClosed scope)
     (call_resolved context names name arguments) (λ c. Ok c.call)
@@ -396,7 +412,7 @@ evaluated_gives context scope names (tree.Conditional condition chosen other) se
     alone_gives context scope names (tree.Conditional condition chosen other) sees
 
 pub expr_as_gives : (context : Context) (scope : Scope) (names : TypedNames) (kind : ValueType)
-    (e : tree.Expr) → Sees context scope names
+    (e : tree.Expr) → SeesNames scope names
     → Gives (IsClosed scope) (expr_as context names kind e)
 expr_as_gives context scope names kind e sees =
     then_gives (IsClosedTyped scope) (IsClosed scope) (expr_resolved context names e)
@@ -404,7 +420,7 @@ expr_as_gives context scope names kind e sees =
     (λ typed h. as_gives scope kind typed h)
 
 pub initial_gives : (context : Context) (scope : Scope) (names : TypedNames) (kind : ValueType)
-    (initial : Option tree.Expr) → Sees context scope names → Gives (IsClosedInitial scope)
+    (initial : Option tree.Expr) → SeesNames scope names → Gives (IsClosedInitial scope)
     (initial_resolved context names kind initial)
 initial_gives context scope names kind None sees = tt
 initial_gives context scope names kind (Some value) sees =

@@ -31,7 +31,8 @@ use Rattle.strc_semantics.specs.Typing.{TypedNames, same_type, is_array, names_w
 use Rattle.strc_semantics.specs.Typing.{block_names, names_after_fields}
 use Rattle.strc_semantics.specs.Constants.{constant_value}
 use Rattle.strc_check.specs.declared.signatures.Signature.{Signature}
-use Rattle.strc_check.specs.Signatures.{Signatures, signatures_after, given_type, argument_count}
+use Rattle.strc_check.specs.Signatures.{Signatures, signatures_after, given_type}
+use Rattle.strc_semantics.specs.Calls.{argument_count}
 use Rattle.strc_check.specs.Signatures.{with_parameters}
 
 -- goes on where a rule is kept
@@ -523,11 +524,15 @@ rates_resolved constants fields input output (first ∷ rest) =
     result_and_then (rates_resolved constants fields input output rest)
     (λ rest'. Ok (first' ∷ rest')))
 
--- a field, whose name no earlier one has; it sees all fields
+-- whether a field's name is taken, by an earlier field or by a helper function's answer
+abbrev pub is_field_taken : (before : List (List ℕ)) → List ℕ → Bool
+is_field_taken before name = bytes_eq name answer_name || has_name before name
+
+-- a field, whose name is new; it sees all fields
 abbrev pub field_resolved : Context → (fields : TypedNames) (before : List (List ℕ)) → ValueType
     → tree.Variable → Result tree.Variable LowerError
 field_resolved context fields before kind variable =
-    where_kept (not (has_name before variable.name))
+    where_kept (not (is_field_taken before variable.name))
     (result_and_then (initial_resolved context fields kind variable.initial) (λ initial'.
     Ok (record { name = variable.name; initial = initial' })))
 

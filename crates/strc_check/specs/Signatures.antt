@@ -38,11 +38,6 @@ given_type helper.Int = Some Int
 given_type helper.Boolean = Some Boolean
 given_type helper.Void = None
 
--- how many arguments a call has
-abbrev pub argument_count : tree.Arguments → ℕ
-argument_count tree.NoArgument = 0
-argument_count (tree.Argument first rest) = suc (argument_count rest)
-
 -- the names that can be seen after parameters, which are numbers, the last one innermost
 abbrev pub with_parameters : TypedNames → List (List ℕ) → TypedNames
 with_parameters names [] = names

@@ -20,6 +20,7 @@ use crate::site::Mismatch;
 use crate::{expression_rules, helpers, parts, rates, statement_rules, type_rules};
 use std::alloc::Global;
 use strc_base::memory::NoMemory;
+use strc_base::name::Name;
 use strc_base::scope::Scope;
 use strc_base::scope_map::ScopeMap;
 use strc_semantics::constants::Constants;
@@ -245,7 +246,15 @@ fn resolve_fields(
     Ok(resolved)
 }
 
-/// A field, whose name no earlier one has.
+/// Whether the name of a field is taken. No name of a text is empty: that is the name of a helper
+/// function's answer.
+fn is_field_taken(before: &Scope, name: &Name) -> bool
+    ensures { result ≡ judged.is_field_taken before.now name.now }
+{
+    name.as_bytes().is_empty() || before.has(name)
+}
+
+/// A field, whose name is new.
 fn resolve_field(
     alloc: Global,
     context: &Context,
@@ -260,7 +269,7 @@ fn resolve_field(
         result }
     ensures before { OnOk result (before.new ≡ variable.now.name ∷ before.old) }
 {
-    if before.has(&variable.name) {
+    if is_field_taken(before, &variable.name) {
         let twice = LowerError::mismatch(Mismatch::DeclaredTwice);
         return Err(twice.or_at(variable.name.place()));
     }

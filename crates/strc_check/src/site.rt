@@ -73,8 +73,6 @@ pub enum Mismatch {
     NoPrinting,
     /// A rate above 0 on a side without items.
     RateWithoutItems,
-    /// A helper function: it is read and checked, and not run as yet.
-    HelperFunction,
     /// A call where none may stand: in a rate, in the length of an array, or outside of a filter.
     NoCalls,
     /// A call of a helper function that gives nothing, where a value is wanted.

@@ -8,11 +8,12 @@ use crate::bodies::{block_of, block_prints, has_prework};
 use std::alloc::Global;
 use strc_base::memory::NoMemory;
 use strc_interval::field_writes::writes_field;
+use strc_interval::helper_writes::calls_writer;
 use strc_semantics::body::Body;
 use strc_syntax::tree::FilterTree;
 
-/// Whether a filter has no prework, doesn't print, and writes no field in its work. `NoMemory`
-/// where there is none for the names in it.
+/// Whether a filter has no prework, doesn't print, and writes no field in its work, nor by a call
+/// there. `NoMemory` where there is none for the names in it.
 pub(crate) fn is_stateless(alloc: Global, tree: &FilterTree) -> Result<bool, NoMemory>
     ensures { IfOk result (λ is. is ≡ spec.is_stateless (filter_of tree.now)) }
 {
@@ -20,5 +21,8 @@ pub(crate) fn is_stateless(alloc: Global, tree: &FilterTree) -> Result<bool, NoM
     if has_prework(&tree.members) || block_prints(work) {
         return Ok(false);
     }
-    Ok(!writes_field(alloc, &tree.members, work)?)
+    if writes_field(alloc, &tree.members, work)? {
+        return Ok(false);
+    }
+    Ok(!calls_writer(alloc, &tree.members, work)?)
 }

@@ -2,7 +2,7 @@
 -- instances of texts.
 use Rattle.std.proofs.Common.{◌≡◌, ℕ, zero, suc, ◌+◌, ℤ, Bool, true, false, List, [], ◌∷◌, length}
 use Rattle.std.proofs.Common.{Option, Some, None, Result, Ok, Err, IfOk, cond, nat_lt, nat_eq, refl}
-use Rattle.std.proofs.Common.{sym, ap, ◌∙◌, subst, not}
+use Rattle.std.proofs.Common.{sym, ap, ◌∙◌, subst}
 use Rattle.std.specs.List.{AllByRecursion}
 use Rattle.strc_syntax.specs.Tree as tree
 use Rattle.strc_syntax.specs.Tree.{Declaration}
@@ -27,7 +27,7 @@ use Rattle.strc_stream.specs.Instances.{Stream}
 use Rattle.strc_stream.specs.Instances as instance
 use Rattle.strc_stream.specs.Types.{IsWellTyped}
 use Rattle.strc_elab.specs.Elaboration.{filter_limit, Totals, Elaborated, Setting, Progress}
-use Rattle.strc_elab.specs.Elaboration.{stmts_run, started_as, instance_of, where_kept, has_helper}
+use Rattle.strc_elab.specs.Elaboration.{stmts_run, started_as, instance_of}
 use Rattle.strc_statements.specs.Written.{same_item}
 use Rattle.strc_elab.specs.Elaboration.{initial_progress, as_written, pipeline_assembly}
 use Rattle.strc_statements.specs.Written.{is_as_written}
@@ -64,21 +64,13 @@ is_started : {A : Type 0} (filter found : Filter) (r : Result A Cause)
 is_started filter found (Ok fields) e = cc
 is_started filter found (Err cause) e = absurd (cc)
 
-was_kept : {A : Type 0} (t : Bool) (refusal : ElabError) (r : Result A ElabError) (x : A)
-    → where_kept t refusal r ≡ Ok x → r ≡ Ok x
-was_kept true refusal r x e = e
-was_kept false refusal r x e = absurd (cc)
-
 -- an instance is a resolved filter
 pub instance_resolved : (place : Place) (filter found : Filter)
     → instance_of place filter ≡ Ok found → filter_resolved place.constants filter ≡ Ok found
 instance_resolved place filter found e =
-    let plain = not (has_helper filter.members) in
-    let refusal : ElabError = refused.TypeMismatch place.declaration in
     let did = then_did (ruled place.declaration (filter_resolved place.constants filter))
-    (λ resolved. where_kept plain refusal (started_as resolved (started resolved))) found e in
-    let same = is_started did.0 found (started did.0)
-    (was_kept plain refusal (started_as did.0 (started did.0)) found did.2) in
+    (λ resolved. started_as resolved (started resolved)) found e in
+    let same = is_started did.0 found (started did.0) did.2 in
     is_ruled place.declaration (filter_resolved place.constants filter) did.0 did.1
     ∙ ap (λ (f : Filter). Ok f) same
 

@@ -378,22 +378,12 @@ abbrev pub started_as : {A : Type 0} → Filter → Result A Cause → Result Fi
 started_as filter (Ok fields) = Ok filter
 started_as filter (Err cause) = Err (refused.ConstFault cause)
 
--- whether there is a helper function
-abbrev pub has_helper : List tree.Member → Bool
-has_helper [] = false
-has_helper (tree.Fields kind variables ∷ rest) = has_helper rest
-has_helper (tree.Init block ∷ rest) = has_helper rest
-has_helper (tree.Prework rates block ∷ rest) = has_helper rest
-has_helper (tree.Work rates block ∷ rest) = has_helper rest
-has_helper (tree.Helper kind name parameters block ∷ rest) = true
-
 -- an instance of a filter: its constants are substituted, its text is checked, and then its
--- initialisers and `init` run; helper functions aren't run as yet
+-- initialisers and `init` run
 abbrev pub instance_of : Place → Filter → Result Filter ElabError
 instance_of place filter =
     result_and_then (ruled place.declaration (filter_resolved place.constants filter))
-    (λ resolved. where_kept (not (has_helper filter.members))
-    (refused.TypeMismatch place.declaration) (started_as resolved (started resolved)))
+    (λ resolved. started_as resolved (started resolved))
 
 -- what a filter takes and gives
 abbrev pub filter_types : Filter → StreamType

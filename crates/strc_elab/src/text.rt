@@ -1,10 +1,9 @@
 // What the text of a stream means: its instances.
 
-ghost use Rattle.std.specs.Prelude.{◌≡◌, [], IfOk, Ok, is_some, not};
+ghost use Rattle.std.specs.Prelude.{◌≡◌, [], IfOk, Ok};
 ghost use Rattle.std.specs.Option.{option_map};
 ghost use Rattle.strc_syntax.specs.View.{block_view};
-ghost use Rattle.strc_semantics.specs.Filters.{filter_of, filter_parts, members_of};
-ghost use Rattle.strc_statements.specs.declared.error.ElabErrorKind.TheVariants as refused;
+ghost use Rattle.strc_semantics.specs.Filters.{filter_of, filter_parts};
 ghost use Rattle.strc_semantics.specs.Firing as firing;
 ghost use Rattle.strc_elab.specs.Elaboration as spec;
 ghost use Rattle.strc_statements.specs.Answers.{IsVerdict};
@@ -19,8 +18,6 @@ use crate::progress::Progress;
 use crate::task::{Elaborated, Task, Text, Totals};
 use std::alloc::{AllocError, Global};
 use strc_base::name::{Name, StringLiteral};
-use strc_check::error::LowerError;
-use strc_check::site::Mismatch;
 use strc_code::code::Code;
 use strc_graph::graph::NODE_LIMIT;
 use strc_graph::instance::Instance;
@@ -63,19 +60,6 @@ fn started(alloc: Global, code: Code) -> Result<Code, ElabError>
     Err(refused)
 }
 
-/// The name of the first helper function.
-fn helper_in(members: &[Member]) -> Option<&Name>
-    ensures { is_some result ≡ spec.has_helper (members_of members.now) }
-{
-    for member in members {
-        match member {
-            Member::Helper(_, name, _, _) => return Some(name),
-            Member::Fields(_) | Member::Init(_) | Member::Prework(_, _) | Member::Work(_, _) => {}
-        }
-    }
-    None
-}
-
 /// A copy of a name, where there is one.
 fn copied(name: Option<&Name>) -> Result<Option<Name>, AllocError>
     ensures { IfOk result (λ copy. copy ≡ option_map (λ n. n.now) name.entry) }
@@ -100,24 +84,9 @@ impl Task<'_> {
             members,
             self.constants,
         ) {
-            Ok(code) => self.runnable(members, code),
+            Ok(code) => started(self.alloc, code),
             Err(error) => Err(at_declaration(self.declaration, error)),
         }
-    }
-
-    /// A filter whose start doesn't fault, without helper functions: they aren't run as yet.
-    fn runnable(&self, members: &[Member], code: Code) -> Result<Code, ElabError>
-        ensures { IsVerdict filter_of (spec.where_kept
-            (not (spec.has_helper (members_of members.now)))
-            (refused.TypeMismatch self.now.declaration)
-            (spec.started_as (filter_of code) (firing.started (filter_of code)))) result }
-    {
-        let Some(name) = helper_in(members) else {
-            return started(self.alloc, code);
-        };
-        drop(code);
-        let error = LowerError::mismatch(Mismatch::HelperFunction).or_at(name.place());
-        Err(at_declaration(self.declaration, error))
     }
 
     /// A filter.

@@ -207,5 +207,4 @@ none_of such (name ∷ rest) e = none_by (such name) such name rest refl e (none
 -- a text that calls no such function calls only others
 pub calls_none_such : (such : List ℕ → Bool) (block : tree.Stmts)
     → stmts_call_one such block ≡ false → NoneSuch such (called_in_stmts block)
-calls_none_such such block e = none_of such (called_in_stmts block) (sym (stmts_call such block)
-    ∙ e)
+calls_none_such such block e = none_of such (called_in_stmts block) (sym (stmts_call such block) ∙ e)

@@ -9,7 +9,7 @@ use Rattle.strc_syntax.specs.Tree as tree
 use Rattle.strc_semantics.specs.Filters.{Helper, helper_named}
 use Rattle.strc_interval.specs.Loops.{stmts_write}
 use Rattle.strc_interval.specs.Calls.{stmts_call_one}
-use Rattle.strc_interval.specs.Stateless.{write_one_of, not_hidden, helper_writes_field}
+use Rattle.strc_interval.specs.Stateless.{write_one_of, not_shadowed, helper_writes_field}
 use Rattle.strc_interval.specs.Stateless.{named_writes, writes_within}
 
 neither : (a b : Bool) → (a || b) ≡ false → (a ≡ false) × (b ≡ false)
@@ -26,15 +26,16 @@ within_block members levels name helper is none =
     (stmts_call_one (writes_within members levels) helper.block)
     (sym (ap (named_writes members (writes_within members levels)) is) ∙ none)
 
-by_hidden : (hidden : Bool) (inner : List (List ℕ)) (name : List ℕ) (rest : List (List ℕ))
-    (block : tree.Stmts) → has_name inner name ≡ hidden
-    → write_one_of (cond hidden (not_hidden inner rest) (name ∷ not_hidden inner rest)) block
+by_shadowed : (shadowed : Bool) (inner : List (List ℕ)) (name : List ℕ) (rest : List (List ℕ))
+    (block : tree.Stmts) → has_name inner name ≡ shadowed
+    → write_one_of (cond shadowed (not_shadowed inner rest) (name ∷ not_shadowed inner rest)) block
     ≡ false
     → (has_name inner name ≡ false → stmts_write name block ≡ false)
-    × (write_one_of (not_hidden inner rest) block ≡ false)
-by_hidden true inner name rest block at none = (λ shown. absurd (cc), none)
-by_hidden false inner name rest block at none =
-    let both = neither (stmts_write name block) (write_one_of (not_hidden inner rest) block) none in
+    × (write_one_of (not_shadowed inner rest) block ≡ false)
+by_shadowed true inner name rest block at none = (λ shown. absurd (cc), none)
+by_shadowed false inner name rest block at none =
+    let both = neither (stmts_write name block) (write_one_of (not_shadowed inner rest) block) none
+    in
     (λ shown. both.0, both.1)
 
 by_name : (is : Bool) (first name : List ℕ) (rest inner : List (List ℕ)) (block : tree.Stmts)
@@ -47,12 +48,12 @@ by_name true first name rest inner block at found shown here later =
     sym (ap (λ n. stmts_write n block) same) ∙ here (ap (has_name inner) same ∙ shown)
 by_name false first name rest inner block at found shown here later = later found
 
--- a block that writes none of the names that can be seen doesn't write one that is not hidden
+-- a block that writes none of the names that can be seen doesn't write one that is not shadowed
 pub shown_unwritten : (inner names : List (List ℕ)) (block : tree.Stmts) (name : List ℕ)
-    → write_one_of (not_hidden inner names) block ≡ false → has_name names name ≡ true
+    → write_one_of (not_shadowed inner names) block ≡ false → has_name names name ≡ true
     → has_name inner name ≡ false → stmts_write name block ≡ false
 shown_unwritten inner [] block name none found shown = absurd (cc)
 shown_unwritten inner (first ∷ rest) block name none found shown =
-    let left = by_hidden (has_name inner first) inner first rest block refl none in
+    let left = by_shadowed (has_name inner first) inner first rest block refl none in
     by_name (bytes_eq first name) first name rest inner block refl found shown left.0
     (λ later. shown_unwritten inner rest block name left.1 later shown)

@@ -1,6 +1,5 @@
 -- The rounds in which the helper functions that can write a field are found.
-use Rattle.std.proofs.Common.{◌≡◌, refl, sym, ◌∙◌, ap, subst, ℕ, zero, suc, ◌+◌, ◌-◌, ◌≤◌, Bool}
-use Rattle.std.proofs.Common.{true}
+use Rattle.std.proofs.Common.{◌≡◌, refl, sym, ◌∙◌, ap, subst, ℕ, zero, suc, ◌+◌, ◌-◌, ◌≤◌, Bool, true}
 use Rattle.std.proofs.Common.{false, ◌&&◌, ◌||◌, List, [], ◌∷◌, Option, Some, None, cond, arith}
 use Rattle.std.specs.Prelude.{bytes_eq, is_some, unwrap_or}
 use Rattle.std.specs.Bool.{beq}
@@ -148,8 +147,7 @@ suc_plus m n = omega arith
 
 -- where one more call within a call changes nothing, no more of them do
 settled : (members : List tree.Member) (levels : ℕ)
-    → ((name : List ℕ) → writes_within members (suc levels) name
-    ≡ writes_within members levels name)
+    → ((name : List ℕ) → writes_within members (suc levels) name ≡ writes_within members levels name)
     → (more : ℕ) (name : List ℕ)
     → writes_within members (more + levels) name ≡ writes_within members levels name
 settled members levels same zero name =

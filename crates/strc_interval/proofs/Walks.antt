@@ -9,7 +9,7 @@ use Rattle.strc_semantics.specs.Filters.{field_names, declared_names}
 use Rattle.strc_interval.specs.Loops.{Locals, with_locals, locals_after, declares, shadows}
 use Rattle.strc_interval.specs.Loops.{expr_writes, exprs_write, option_writes, variables_write}
 use Rattle.strc_interval.specs.Loops.{stmt_writes, stmts_write}
-use Rattle.strc_interval.specs.Stateless.{write_one_of, not_hidden}
+use Rattle.strc_interval.specs.Stateless.{write_one_of, not_shadowed}
 use Rattle.strc_interval.specs.Walk.{with_fields, is_field, expr_writes_field, exprs_write_field}
 use Rattle.strc_interval.specs.Walk.{option_writes_field, variables_write_field}
 use Rattle.strc_interval.specs.Walk.{stmt_writes_field, stmts_write_field}
@@ -47,7 +47,7 @@ not_first : (a b t : Bool) → (not a && (not b && t)) ≡ (not (a || b) && t)
 not_first true b t = refl
 not_first false b t = refl
 
--- ---- tests of fields that no local variable hides
+-- ---- tests of fields that no local variable shadows
 
 abbrev some_field : (fields : List (List ℕ)) → Locals → (List ℕ → Bool) → Bool
 some_field [] locals test = false
@@ -88,15 +88,15 @@ both fields locals a b first second e f =
     ∙ sym (some_or fields locals a b)
 
 -- one more local variable
-some_hidden : (fields : List (List ℕ)) (locals : Locals) (hiding : List ℕ) (test : List ℕ → Bool)
-    → some_field fields (hiding ∷ locals) test
-    ≡ some_field fields locals (λ name. not (bytes_eq hiding name) && test name)
-some_hidden [] locals hiding test = refl
-some_hidden (name ∷ rest) locals hiding test =
-    ap (λ t. t || some_field rest (hiding ∷ locals) test)
-    (not_either (bytes_eq hiding name) (has_name locals name) (test name))
-    ∙ ap (λ t. (not (has_name locals name) && (not (bytes_eq hiding name) && test name)) || t)
-    (some_hidden rest locals hiding test)
+some_shadowed : (fields : List (List ℕ)) (locals : Locals) (shadowing : List ℕ)
+    (test : List ℕ → Bool) → some_field fields (shadowing ∷ locals) test
+    ≡ some_field fields locals (λ name. not (bytes_eq shadowing name) && test name)
+some_shadowed [] locals shadowing test = refl
+some_shadowed (name ∷ rest) locals shadowing test =
+    ap (λ t. t || some_field rest (shadowing ∷ locals) test)
+    (not_either (bytes_eq shadowing name) (has_name locals name) (test name))
+    ∙ ap (λ t. (not (has_name locals name) && (not (bytes_eq shadowing name) && test name)) || t)
+    (some_shadowed rest locals shadowing test)
 
 some_declared : (fields : List (List ℕ)) (locals : Locals) (variables : List tree.Variable)
     (test : List ℕ → Bool) → some_field fields (with_locals locals variables) test
@@ -104,7 +104,7 @@ some_declared : (fields : List (List ℕ)) (locals : Locals) (variables : List t
 some_declared fields locals [] test = refl
 some_declared fields locals (first ∷ rest) test =
     some_declared fields (first.name ∷ locals) rest test
-    ∙ some_hidden fields locals first.name (λ name. not (declares name rest) && test name)
+    ∙ some_shadowed fields locals first.name (λ name. not (declares name rest) && test name)
     ∙ some_same fields locals
     (λ name. not (bytes_eq first.name name) && (not (declares name rest) && test name))
     (λ name. not (declares name (first ∷ rest)) && test name)
@@ -145,16 +145,16 @@ bytes_turned a b = by_test (bytes_eq a b) (bytes_eq b a) refl refl
         let yes : bytes_eq a b ≡ true =
         (bytes_eq-Decides a b).1 (sym ((bytes_eq-Decides b a).0 f)) in absurd (cc)
 
-field_by : (t hidden hides found more : Bool) → (t ≡ true → hidden ≡ hides)
-    → (not hidden && found) ≡ more → (not hidden && (t || found)) ≡ ((not hides && t) || more)
-field_by true true hides found more same e =
-    let is : true ≡ hides = same refl in
+field_by : (t shadowed shadows found more : Bool) → (t ≡ true → shadowed ≡ shadows)
+    → (not shadowed && found) ≡ more → (not shadowed && (t || found)) ≡ ((not shadows && t) || more)
+field_by true true shadows found more same e =
+    let is : true ≡ shadows = same refl in
     e ∙ ap (λ h. (not h && true) || more) is
-field_by true false hides found more same e =
-    let is : false ≡ hides = same refl in
+field_by true false shadows found more same e =
+    let is : false ≡ shadows = same refl in
     ap (λ h. (not h && true) || more) is
-field_by false hidden hides found more same e =
-    e ∙ sym (ap (λ t. t || more) (and_false (not hides)))
+field_by false shadowed shadows found more same e =
+    e ∙ sym (ap (λ t. t || more) (and_false (not shadows)))
 
 some_named : (fields : List (List ℕ)) (locals : Locals) (sought : List ℕ)
     → is_field fields locals sought ≡ some_field fields locals (λ name. bytes_eq sought name)
@@ -216,7 +216,7 @@ variables_walk fields locals (first ∷ rest) =
     (λ name. not (bytes_eq first.name name) && variables_write name rest) _ _
     (option_walk fields locals first.initial)
     (variables_walk fields (first.name ∷ locals) rest
-    ∙ some_hidden fields locals first.name (λ name. variables_write name rest))
+    ∙ some_shadowed fields locals first.name (λ name. variables_write name rest))
 
 mutual
   stmt_walk : (fields : List (List ℕ)) (locals : Locals) (s : tree.Stmt)
@@ -340,32 +340,33 @@ walk_tells members block = walk_from members [] block ∙ some_one_of (field_nam
 
 -- ---- all fields, after parameters
 
--- the other fields are those that no local variable hides
+-- the other fields are those that no local variable shadows
 some_shown : (fields : List (List ℕ)) (locals : Locals) (block : tree.Stmts)
     → some_field fields locals (λ name. stmts_write name block)
-    ≡ write_one_of (not_hidden locals fields) block
+    ≡ write_one_of (not_shadowed locals fields) block
 some_shown [] locals block = refl
 some_shown (name ∷ rest) locals block =
-    by_hidden (has_name locals name) (some_shown rest locals block)
+    by_shadowed (has_name locals name) (some_shown rest locals block)
   where
-    by_hidden : (hidden : Bool)
+    by_shadowed : (shadowed : Bool)
         → some_field rest locals (λ name. stmts_write name block)
-        ≡ write_one_of (not_hidden locals rest) block
-        → ((not hidden && stmts_write name block)
+        ≡ write_one_of (not_shadowed locals rest) block
+        → ((not shadowed && stmts_write name block)
         || some_field rest locals (λ name. stmts_write name block))
-        ≡ write_one_of (cond hidden (not_hidden locals rest) (name ∷ not_hidden locals rest)) block
-    by_hidden true e = e
-    by_hidden false e = ap (λ t. stmts_write name block || t) e
+        ≡ write_one_of (cond shadowed (not_shadowed locals rest) (name ∷ not_shadowed locals rest))
+        block
+    by_shadowed true e = e
+    by_shadowed false e = ap (λ t. stmts_write name block || t) e
 
--- what is hidden is told by which names there are, in whichever order
-some_hidden_alike : (fields : List (List ℕ)) (first second : Locals) (test : List ℕ → Bool)
+-- what is shadowed is told by which names there are, in whichever order
+some_shadowed_alike : (fields : List (List ℕ)) (first second : Locals) (test : List ℕ → Bool)
     → ((name : List ℕ) → has_name first name ≡ has_name second name)
     → some_field fields first test ≡ some_field fields second test
-some_hidden_alike [] first second test same = refl
-some_hidden_alike (name ∷ rest) first second test same =
+some_shadowed_alike [] first second test same = refl
+some_shadowed_alike (name ∷ rest) first second test same =
     ap (λ t. (not t && test name) || some_field rest first test) (same name)
     ∙ ap (λ t. (not (has_name second name) && test name) || t)
-    (some_hidden_alike rest first second test same)
+    (some_shadowed_alike rest first second test same)
 
 has_parameter : (names parameters : List (List ℕ)) (name : List ℕ)
     → has_name (with_parameters names parameters) name
@@ -379,10 +380,10 @@ has_parameter names (first ∷ rest) name =
 pub helper_walk_tells : (members : List tree.Member) (parameters : List (List ℕ))
     (block : tree.Stmts)
     → stmts_write_field (with_fields [] members) (with_parameters [] parameters) block
-    ≡ write_one_of (not_hidden parameters (field_names members)) block
+    ≡ write_one_of (not_shadowed parameters (field_names members)) block
 helper_walk_tells members parameters block =
     walk_from members (with_parameters [] parameters) block
-    ∙ some_hidden_alike (field_names members) (with_parameters [] parameters) parameters
+    ∙ some_shadowed_alike (field_names members) (with_parameters [] parameters) parameters
     (λ name. stmts_write name block)
     (λ name. has_parameter [] parameters name ∙ or_false (has_name parameters name))
     ∙ some_shown (field_names members) parameters block

@@ -15,24 +15,24 @@ abbrev pub write_one_of : List (List ℕ) → tree.Stmts → Bool
 write_one_of [] block = false
 write_one_of (name ∷ rest) block = stmts_write name block || write_one_of rest block
 
--- whether the work writes a field, or an element of one; a local variable that hides a field is
+-- whether the work writes a field, or an element of one; a local variable that shadows a field is
 -- none
 abbrev pub writes_field : Filter → Bool
 writes_field filter = write_one_of (field_names filter.members) (work_block filter.members)
 
 -- ---- helper functions
 
--- those of these names that no inner variable hides
-abbrev pub not_hidden : (inner names : List (List ℕ)) → List (List ℕ)
-not_hidden inner [] = []
-not_hidden inner (name ∷ rest) =
-    if has_name inner name then not_hidden inner rest else name ∷ not_hidden inner rest
+-- those of these names that no inner variable shadows
+abbrev pub not_shadowed : (inner names : List (List ℕ)) → List (List ℕ)
+not_shadowed inner [] = []
+not_shadowed inner (name ∷ rest) =
+    if has_name inner name then not_shadowed inner rest else name ∷ not_shadowed inner rest
 
 -- whether the block of a helper function itself writes a field, or an element of one; a parameter
--- or a local variable that hides a field is none
+-- or a local variable that shadows a field is none
 abbrev pub helper_writes_field : List tree.Member → Helper → Bool
 helper_writes_field members helper =
-    write_one_of (not_hidden helper.parameters (field_names members)) helper.block
+    write_one_of (not_shadowed helper.parameters (field_names members)) helper.block
 
 -- whether a helper function writes a field, or calls one of these functions
 abbrev pub writes_or_calls : List tree.Member → (such : List ℕ → Bool) → Helper → Bool
@@ -57,8 +57,8 @@ calls_writer filter =
 
 -- ---- filters
 
--- a filter of one body, which neither prints nor writes a field; calls aren't run as yet
+-- a filter of one body, which neither prints nor writes a field, also not by its calls
 abbrev pub is_stateless : Filter → Bool
 is_stateless filter =
     not (is_some (prework_block filter.members))
-    && (not (filter_prints filter) && not (writes_field filter))
+    && (not (filter_prints filter) && (not (writes_field filter) && not (calls_writer filter)))

@@ -102,7 +102,7 @@ fn helper_tells(
     ensures { IfOk result (λ writes. writes
         ≡ spec.block_tells fields.now before.now parameters.now (block_view block.now)) }
 {
-    // A parameter hides a field of its name.
+    // A parameter shadows a field of its name.
     let mut locals = Scope::new(alloc);
     declare_parameters(&mut locals, parameters)?;
     if block_writes_field(fields, &mut locals, block)? {

@@ -4,6 +4,7 @@ ghost use Rattle.std.specs.Prelude.{◌≡◌, ◌+◌, true, IfOk, OnOk};
 ghost use Rattle.strc_syntax.specs.Tree as tree;
 ghost use Rattle.strc_syntax.specs.View.{expr_view, listed_view};
 ghost use Rattle.strc_semantics.specs.Scoping.{total, slot_of};
+ghost use Rattle.strc_semantics.specs.Calls.{argument_count};
 ghost use Rattle.strc_code.specs.Nodes.{before};
 ghost use Rattle.strc_code.specs.Lowering as spec;
 ghost use Rattle.strc_lowering.specs.Written.{written};
@@ -115,7 +116,7 @@ fn emit_arguments(
     free: u32,
 ) -> Result<u32, NoMemory>
     ensures { IfOk result
-        (λ end. (end ≡ free + spec.argument_count (listed_view arguments.now))
+        (λ end. (end ≡ free + argument_count (listed_view arguments.now))
         × (written code.new ≡ before (written code.old)
         (spec.arguments_nodes names.now (listed_view arguments.now) free))) }
 {

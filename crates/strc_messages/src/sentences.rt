@@ -43,7 +43,7 @@ fn fault_sentence(cause: Cause) -> &'static [u8] {
         Cause::Index => b"an index or a length is out of bounds while the streams are put together",
         Cause::PeekRange => b"an item is looked at while the streams are put together",
         Cause::Turns => b"loops turn more than 1,000,000 times while the streams are put together",
-        Cause::Calls => b"a helper function is called while the streams are put together",
+        Cause::Calls => b"more than 64 calls run at once while the streams are put together",
     }
 }
 

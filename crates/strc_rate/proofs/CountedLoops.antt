@@ -33,7 +33,7 @@ use Rattle.strc_interval.specs.Loops.{value_after, stmt_writes}
 use Rattle.strc_rate.specs.Turns.{TurnsAreLeast}
 use Rattle.strc_rate.proofs.Results.{then_ok, both_ok, done_ok, ok_known, below, below_all}
 use Rattle.strc_rate.proofs.Results.{above, above_more}
-use Rattle.strc_rate.proofs.Keeping.{one_name, Same, same_size, same_cells, reaches_fields}
+use Rattle.strc_rate.proofs.Keeping.{one_name, Same, same_size, same_cells}
 use Rattle.strc_rate.proofs.Unwritten.{Done, inside_same, stmt_keeps}
 use Rattle.strc_rate.proofs.LoopTurns.{compares, Turning, loop_sound}
 use Rattle.strc_rate.proofs.LoopParts.{constant_done, cells_sized, assigned_is, Seen, seen_sized}
@@ -349,8 +349,8 @@ module _ {locals : Locals} {first : tree.Stmt} {condition : Option tree.Expr}
       (inside_same setting.fields writes writes (stmt_done setting body) store (λ name e. e)
       (IfOk-weaker (stmt_done setting body store)
       (λ after. Done setting.fields writes (names_after (scope_of store.variables) body)
-      store.variables after.variables) _ (λ after k. k.grown) (stmt_keeps setting setting.fields
-      (reaches_fields setting) body names store closed)))
+      store.variables after.variables) _ (λ after k. k.grown)
+      (stmt_keeps setting body names store closed)))
       (bodies t store lt at.shape at.value at.so_far))
       (λ middle h.
       let shape : scope_of middle.variables ≡ scope = h.0.shape ∙ at.shape in

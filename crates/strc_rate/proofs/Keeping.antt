@@ -25,6 +25,7 @@ use Rattle.strc_semantics.specs.Firing.{after_call, Called, revalued}
 use Rattle.strc_semantics.proofs.Calls.{scope_of-after_call, length-after_call}
 use Rattle.strc_rate.proofs.Scopes.{scope_of, scope_of-with_cell}
 use Rattle.strc_interval.specs.Loops.{expr_writes, exprs_write, option_writes}
+use Rattle.strc_interval.specs.Calls.{expr_calls_one, arguments_call_one, option_calls_one}
 use Rattle.strc_rate.proofs.Results.{or_first, or_second, then_ok, any_ok, below, above, below_all}
 
 -- ---- the cells of a name after a write
@@ -108,15 +109,21 @@ abbrev pub Covers : (wide narrow : List ℕ → Bool) → Type 0
 Covers wide narrow = (name : List ℕ) → wide name ≡ false → narrow name ≡ false
 
 -- what holds of a store holds after more traffic, after a write of these names, and after a call
-pub record Holding (setting : Setting) (P : Store → Type 0) (writes : List ℕ → Bool) : Type 0
+-- that is of no such name
+pub record HoldingBut (setting : Setting) (P : Store → Type 0)
+    (writes such : List ℕ → Bool) : Type 0
   where
     pub moved : (store : Store) (traffic : Traffic) → P store
         → P (record store { traffic = traffic })
     pub written : (store : Store) (name : List ℕ) (place : ℕ) (value : ℤ)
         → Covers writes (bytes_eq name) → P store → P (cell_set store name place value)
-    pub called : (store : Store) (name : List ℕ) (values : List ℤ) → P store
+    pub called : (store : Store) (name : List ℕ) (values : List ℤ) → such name ≡ false → P store
         → IfOk (setting.call name values (values_of (fields_in setting store.variables))
         store.traffic.turns) (λ called. P (after_call setting store called))
+
+-- the same, whatever is called
+abbrev pub Holding : (setting : Setting) (P : Store → Type 0) (writes : List ℕ → Bool) → Type 0
+Holding setting P writes = HoldingBut setting P writes (λ name. false)
 
 -- a value, and a store of which it holds
 abbrev pub Given : (Store → Type 0) → Result (ℤ × Store) Cause → Type 0
@@ -133,8 +140,8 @@ strict_holds P operator first right h =
     (λ second k. then_ok (binary_value operator first.0 second.0) _ (λ value. Unit {0})
     (λ given. P given.1) (any_ok (binary_value operator first.0 second.0)) (λ value _. k))
 
-one_holds : (P : Store → Type 0) (test : Bool) (one other : Result (ℤ × Store) Cause) → Given P one
-    → Given P other → Given P (cond test one other)
+pub one_holds : (P : Store → Type 0) (test : Bool) (one other : Result (ℤ × Store) Cause)
+    → Given P one → Given P other → Given P (cond test one other)
 one_holds P true one other h k = h
 one_holds P false one other h k = k
 
@@ -164,92 +171,108 @@ joined_holds P binary.Divide first right h k = strict_holds P binary.Divide firs
 joined_holds P binary.Remainder first right h k = strict_holds P binary.Remainder first right k
 
 mutual
-  -- what holds of the store holds after an expression that writes no other names
-  pub value_holds : (setting : Setting) (P : Store → Type 0) (writes : List ℕ → Bool)
-      → Holding setting P writes → (e : tree.Expr) (store : Store)
-      → Covers writes (λ name. expr_writes name e) → P store → Given P (value_of setting e store)
-  value_holds setting P writes holding (tree.Number value) store covers h = h
-  value_holds setting P writes holding (tree.Truth value) store covers h = h
-  value_holds setting P writes holding (tree.Read name) store covers h = h
-  value_holds setting P writes holding (tree.Element name index) store covers h =
+  -- what holds of the store holds after an expression that writes no other names, and has no such
+  -- call
+  pub value_holds_but : (setting : Setting) (P : Store → Type 0) (writes such : List ℕ → Bool)
+      → HoldingBut setting P writes such → (e : tree.Expr) (store : Store)
+      → Covers writes (λ name. expr_writes name e) → expr_calls_one such e ≡ false → P store
+      → Given P (value_of setting e store)
+  value_holds_but setting P writes such holding (tree.Number value) store covers none h = h
+  value_holds_but setting P writes such holding (tree.Truth value) store covers none h = h
+  value_holds_but setting P writes such holding (tree.Read name) store covers none h = h
+  value_holds_but setting P writes such holding (tree.Element name index) store covers none h =
       then_ok (value_of setting index store) _ (λ given. P given.1) (λ given. P given.1)
-      (value_holds setting P writes holding index store covers h)
+      (value_holds_but setting P writes such holding index store covers none h)
       (λ at k. then_ok (place_of at.1 name at.0) _ (λ place. Unit {0}) (λ given. P given.1)
       (any_ok (place_of at.1 name at.0)) (λ place _. k))
-  value_holds setting P writes holding tree.Pop store covers h =
+  value_holds_but setting P writes such holding tree.Pop store covers none h =
       then_ok (popped_from setting.port store.traffic) _ (λ taken. Unit {0}) (λ given. P given.1)
       (any_ok (popped_from setting.port store.traffic))
       (λ taken _. holding.moved store taken.1 h)
-  value_holds setting P writes holding (tree.Peek index) store covers h =
+  value_holds_but setting P writes such holding (tree.Peek index) store covers none h =
       then_ok (value_of setting index store) _ (λ given. P given.1) (λ given. P given.1)
-      (value_holds setting P writes holding index store covers h)
+      (value_holds_but setting P writes such holding index store covers none h)
       (λ place k. then_ok (peeked_from setting.port place.0 place.1.traffic) _ (λ item. Unit {0})
       (λ given. P given.1) (any_ok (peeked_from setting.port place.0 place.1.traffic))
       (λ item _. k))
-  value_holds setting P writes holding (tree.Call name arguments) store covers h =
+  value_holds_but setting P writes such holding (tree.Call name arguments) store covers none h =
       then_ok (arguments_given setting arguments store) _ (λ given. P given.1) (λ given. P given.1)
-      (arguments_hold setting P writes holding arguments store covers h)
+      (arguments_hold setting P writes such holding arguments store covers
+      (or_second (such name) _ none) h)
       (λ given k. then_ok (setting.call name given.0
       (values_of (fields_in setting given.1.variables)) given.1.traffic.turns) _
       (λ called. P (after_call setting given.1 called)) (λ after. P after.1)
-      (holding.called given.1 name given.0 k) (λ called l. l))
-  value_holds setting P writes holding (tree.Group inner) store covers h =
-      value_holds setting P writes holding inner store covers h
-  value_holds setting P writes holding (tree.Unary operator operand) store covers h =
+      (holding.called given.1 name given.0 (or_first (such name) _ none) k) (λ called l. l))
+  value_holds_but setting P writes such holding (tree.Group inner) store covers none h =
+      value_holds_but setting P writes such holding inner store covers none h
+  value_holds_but setting P writes such holding (tree.Unary operator operand) store covers none h =
       then_ok (value_of setting operand store) _ (λ given. P given.1) (λ given. P given.1)
-      (value_holds setting P writes holding operand store covers h) (λ given k. k)
-  value_holds setting P writes holding (tree.Step operator name) store covers h =
+      (value_holds_but setting P writes such holding operand store covers none h) (λ given k. k)
+  value_holds_but setting P writes such holding (tree.Step operator name) store covers none h =
       holding.written store name 0 _ covers h
-  value_holds setting P writes holding (tree.StepElement operator name index) store covers h =
+  value_holds_but setting P writes such holding (tree.StepElement operator name index) store covers
+      none h =
       then_ok (value_of setting index store) _ (λ given. P given.1) (λ given. P given.1)
-      (value_holds setting P writes holding index store
-      (λ n e. or_second (bytes_eq name n) _ (covers n e)) h)
+      (value_holds_but setting P writes such holding index store
+      (λ n e. or_second (bytes_eq name n) _ (covers n e)) none h)
       (λ at k.
       then_ok (place_of at.1 name at.0) _ (λ place. Unit {0}) (λ given. P given.1)
       (any_ok (place_of at.1 name at.0))
       (λ place _. holding.written at.1 name place _
       (λ n e. or_first (bytes_eq name n) _ (covers n e)) k))
-  value_holds setting P writes holding (tree.Binary operator left right) store covers h =
+  value_holds_but setting P writes such holding (tree.Binary operator left right) store covers none
+      h =
       then_ok (value_of setting left store) _ (λ given. P given.1) (λ given. P given.1)
-      (value_holds setting P writes holding left store
-      (λ n e. or_first (expr_writes n left) _ (covers n e)) h)
+      (value_holds_but setting P writes such holding left store
+      (λ n e. or_first (expr_writes n left) _ (covers n e))
+      (or_first (expr_calls_one such left) _ none) h)
       (λ first k. joined_holds P operator first (value_of setting right) k
-      (value_holds setting P writes holding right first.1
-      (λ n e. or_second (expr_writes n left) _ (covers n e)) k))
-  value_holds setting P writes holding (tree.Conditional condition chosen other) store covers h =
+      (value_holds_but setting P writes such holding right first.1
+      (λ n e. or_second (expr_writes n left) _ (covers n e))
+      (or_second (expr_calls_one such left) _ none) k))
+  value_holds_but setting P writes such holding (tree.Conditional condition chosen other) store
+      covers none h =
+      let later = or_second (expr_calls_one such condition) _ none in
       then_ok (value_of setting condition store) _ (λ given. P given.1) (λ given. P given.1)
-      (value_holds setting P writes holding condition store
-      (λ n e. or_first (expr_writes n condition) _ (covers n e)) h)
+      (value_holds_but setting P writes such holding condition store
+      (λ n e. or_first (expr_writes n condition) _ (covers n e))
+      (or_first (expr_calls_one such condition) _ none) h)
       (λ test k. one_holds P (is_true test.0) (value_of setting chosen test.1)
       (value_of setting other test.1)
-      (value_holds setting P writes holding chosen test.1
+      (value_holds_but setting P writes such holding chosen test.1
       (λ n e. or_first (expr_writes n chosen) _
-      (or_second (expr_writes n condition) _ (covers n e))) k)
-      (value_holds setting P writes holding other test.1
+      (or_second (expr_writes n condition) _ (covers n e)))
+      (or_first (expr_calls_one such chosen) _ later) k)
+      (value_holds_but setting P writes such holding other test.1
       (λ n e. or_second (expr_writes n chosen) _
-      (or_second (expr_writes n condition) _ (covers n e))) k))
+      (or_second (expr_writes n condition) _ (covers n e)))
+      (or_second (expr_calls_one such chosen) _ later) k))
 
-  arguments_hold : (setting : Setting) (P : Store → Type 0) (writes : List ℕ → Bool)
-      → Holding setting P writes → (arguments : tree.Arguments) (store : Store)
-      → Covers writes (λ name. exprs_write name arguments) → P store
+  arguments_hold : (setting : Setting) (P : Store → Type 0) (writes such : List ℕ → Bool)
+      → HoldingBut setting P writes such → (arguments : tree.Arguments) (store : Store)
+      → Covers writes (λ name. exprs_write name arguments)
+      → arguments_call_one such arguments ≡ false → P store
       → IfOk (arguments_given setting arguments store) (λ given. P given.1)
-  arguments_hold setting P writes holding tree.NoArgument store covers h = h
-  arguments_hold setting P writes holding (tree.Argument first rest) store covers h =
+  arguments_hold setting P writes such holding tree.NoArgument store covers none h = h
+  arguments_hold setting P writes such holding (tree.Argument first rest) store covers none h =
       then_ok (value_of setting first store) _ (λ given. P given.1) (λ all. P all.1)
-      (value_holds setting P writes holding first store
-      (λ n e. or_first (expr_writes n first) _ (covers n e)) h)
+      (value_holds_but setting P writes such holding first store
+      (λ n e. or_first (expr_writes n first) _ (covers n e))
+      (or_first (expr_calls_one such first) _ none) h)
       (λ given k. then_ok (arguments_given setting rest given.1) _ (λ others. P others.1)
       (λ all. P all.1)
-      (arguments_hold setting P writes holding rest given.1
-      (λ n e. or_second (expr_writes n first) _ (covers n e)) k) (λ others l. l))
+      (arguments_hold setting P writes such holding rest given.1
+      (λ n e. or_second (expr_writes n first) _ (covers n e))
+      (or_second (expr_calls_one such first) _ none) k) (λ others l. l))
 
-pub condition_holds : (setting : Setting) (P : Store → Type 0) (writes : List ℕ → Bool)
-    → Holding setting P writes → (condition : Option tree.Expr) (store : Store)
-    → Covers writes (λ name. option_writes name condition) → P store
+pub condition_holds_but : (setting : Setting) (P : Store → Type 0) (writes such : List ℕ → Bool)
+    → HoldingBut setting P writes such → (condition : Option tree.Expr) (store : Store)
+    → Covers writes (λ name. option_writes name condition)
+    → option_calls_one such condition ≡ false → P store
     → Given P (condition_value setting condition store)
-condition_holds setting P writes holding None store covers h = h
-condition_holds setting P writes holding (Some condition) store covers h =
-    value_holds setting P writes holding condition store covers h
+condition_holds_but setting P writes such holding None store covers none h = h
+condition_holds_but setting P writes such holding (Some condition) store covers none h =
+    value_holds_but setting P writes such holding condition store covers none h
 
 -- ---- assignments
 
@@ -262,55 +285,146 @@ assigned_writes name assigned assign.Multiply value = refl
 assigned_writes name assigned assign.Divide value = refl
 assigned_writes name assigned assign.Remainder value = refl
 
+assigned_calls : (such : List ℕ → Bool) (assigned : List ℕ) (operator : AssignOperator)
+    (value : tree.Expr)
+    → expr_calls_one such (assigned_value assigned operator value) ≡ expr_calls_one such value
+assigned_calls such assigned assign.Set value = refl
+assigned_calls such assigned assign.Add value = refl
+assigned_calls such assigned assign.Subtract value = refl
+assigned_calls such assigned assign.Multiply value = refl
+assigned_calls such assigned assign.Divide value = refl
+assigned_calls such assigned assign.Remainder value = refl
+
+pub assigned_holds_but : (setting : Setting) (P : Store → Type 0) (writes such : List ℕ → Bool)
+    → HoldingBut setting P writes such → (name : List ℕ) (operator : AssignOperator)
+    (value : tree.Expr) (store : Store)
+    → Covers writes (λ n. bytes_eq name n || expr_writes n value)
+    → expr_calls_one such value ≡ false → P store
+    → IfOk (result_and_then (value_of setting (assigned_value name operator value) store)
+    (λ given. Ok (cell_set given.1 name 0 given.0))) P
+assigned_holds_but setting P writes such holding name operator value store covers none h =
+    then_ok (value_of setting (assigned_value name operator value) store) _ (λ given. P given.1) P
+    (value_holds_but setting P writes such holding (assigned_value name operator value) store
+    (λ n e. assigned_writes n name operator value ∙ or_second (bytes_eq name n) _ (covers n e))
+    (assigned_calls such name operator value ∙ none) h)
+    (λ given k. holding.written given.1 name 0 given.0
+    (λ n e. or_first (bytes_eq name n) _ (covers n e)) k)
+
+joined_element_holds : (setting : Setting) (P : Store → Type 0) (writes such : List ℕ → Bool)
+    → HoldingBut setting P writes such → (name : List ℕ) (operator : BinaryOperator)
+    (value : tree.Expr) (at : ℤ × Store)
+    → Covers writes (bytes_eq name) → Covers writes (λ n. expr_writes n value)
+    → expr_calls_one such value ≡ false → P at.1
+    → IfOk (element_joined setting name operator value at) P
+joined_element_holds setting P writes such holding name operator value at writes_it covers none h =
+    then_ok (place_of at.1 name at.0) _ (λ place. Unit {0}) P (any_ok (place_of at.1 name at.0))
+    (λ place _.
+    then_ok (value_of setting value at.1) _ (λ given. P given.1) P
+    (value_holds_but setting P writes such holding value at.1 covers none h)
+    (λ given k.
+    then_ok (binary_value operator (cell_in at.1 name place) given.0) _ (λ new. Unit {0}) P
+    (any_ok (binary_value operator (cell_in at.1 name place) given.0))
+    (λ new _. holding.written given.1 name place new writes_it k)))
+
+element_holds : (setting : Setting) (P : Store → Type 0) (writes such : List ℕ → Bool)
+    → HoldingBut setting P writes such → (name : List ℕ) (operator : AssignOperator)
+    (value : tree.Expr) (at : ℤ × Store)
+    → Covers writes (bytes_eq name) → Covers writes (λ n. expr_writes n value)
+    → expr_calls_one such value ≡ false → P at.1
+    → IfOk (element_set setting name operator value at) P
+element_holds setting P writes such holding name assign.Set value at writes_it covers none h =
+    then_ok (value_of setting value at.1) _ (λ given. P given.1) P
+    (value_holds_but setting P writes such holding value at.1 covers none h)
+    (λ given k.
+    then_ok (place_of given.1 name at.0) _ (λ place. Unit {0}) P
+    (any_ok (place_of given.1 name at.0))
+    (λ place _. holding.written given.1 name place given.0 writes_it k))
+element_holds setting P writes such holding name assign.Add value at writes_it covers none h =
+    joined_element_holds setting P writes such holding name binary.Add value at writes_it
+    covers none h
+element_holds setting P writes such holding name assign.Subtract value at writes_it covers none h =
+    joined_element_holds setting P writes such holding name binary.Subtract value at writes_it
+    covers none h
+element_holds setting P writes such holding name assign.Multiply value at writes_it covers none h =
+    joined_element_holds setting P writes such holding name binary.Multiply value at writes_it
+    covers none h
+element_holds setting P writes such holding name assign.Divide value at writes_it covers none h =
+    joined_element_holds setting P writes such holding name binary.Divide value at writes_it
+    covers none h
+element_holds setting P writes such holding name assign.Remainder value at writes_it covers none h =
+    joined_element_holds setting P writes such holding name binary.Remainder value at writes_it
+    covers none h
+
+pub element_assigned_holds_but : (setting : Setting) (P : Store → Type 0)
+    (writes such : List ℕ → Bool)
+    → HoldingBut setting P writes such → (name : List ℕ) (index : tree.Expr)
+    (operator : AssignOperator) (value : tree.Expr) (store : Store) → Covers writes
+    (λ n. bytes_eq name n || (expr_writes n index || expr_writes n value))
+    → (expr_calls_one such index || expr_calls_one such value) ≡ false → P store
+    → IfOk (result_and_then (value_of setting index store)
+    (element_set setting name operator value)) P
+element_assigned_holds_but setting P writes such holding name index operator value store covers none
+    h =
+    then_ok (value_of setting index store) (element_set setting name operator value)
+    (λ given. P given.1) P
+    (value_holds_but setting P writes such holding index store
+    (λ n e. or_first (expr_writes n index) _ (or_second (bytes_eq name n) _ (covers n e)))
+    (or_first (expr_calls_one such index) _ none) h)
+    (λ at k. element_holds setting P writes such holding name operator value at
+    (λ n e. or_first (bytes_eq name n) _ (covers n e))
+    (λ n e. or_second (expr_writes n index) _ (or_second (bytes_eq name n) _ (covers n e)))
+    (or_second (expr_calls_one such index) _ none) k)
+
+-- ---- whatever is called
+
+pub neither : (a b : Bool) → a ≡ false → b ≡ false → (a || b) ≡ false
+neither true b e f = e
+neither false b e f = f
+
+mutual
+  -- no call is of no name
+  no_call : (e : tree.Expr) → expr_calls_one (λ name. false) e ≡ false
+  no_call (tree.Number value) = refl
+  no_call (tree.Truth value) = refl
+  no_call (tree.Read name) = refl
+  no_call (tree.Element name index) = no_call index
+  no_call tree.Pop = refl
+  no_call (tree.Peek index) = no_call index
+  no_call (tree.Call name arguments) = no_calls arguments
+  no_call (tree.Group inner) = no_call inner
+  no_call (tree.Unary operator operand) = no_call operand
+  no_call (tree.Step operator name) = refl
+  no_call (tree.StepElement operator name index) = no_call index
+  no_call (tree.Binary operator left right) = neither _ _ (no_call left) (no_call right)
+  no_call (tree.Conditional condition chosen other) =
+      neither _ _ (no_call condition) (neither _ _ (no_call chosen) (no_call other))
+
+  no_calls : (arguments : tree.Arguments) → arguments_call_one (λ name. false) arguments ≡ false
+  no_calls tree.NoArgument = refl
+  no_calls (tree.Argument first rest) = neither _ _ (no_call first) (no_calls rest)
+
+pub value_holds : (setting : Setting) (P : Store → Type 0) (writes : List ℕ → Bool)
+    → Holding setting P writes → (e : tree.Expr) (store : Store)
+    → Covers writes (λ name. expr_writes name e) → P store → Given P (value_of setting e store)
+value_holds setting P writes holding e store covers h =
+    value_holds_but setting P writes (λ name. false) holding e store covers (no_call e) h
+
+pub condition_holds : (setting : Setting) (P : Store → Type 0) (writes : List ℕ → Bool)
+    → Holding setting P writes → (condition : Option tree.Expr) (store : Store)
+    → Covers writes (λ name. option_writes name condition) → P store
+    → Given P (condition_value setting condition store)
+condition_holds setting P writes holding None store covers h = h
+condition_holds setting P writes holding (Some condition) store covers h =
+    value_holds setting P writes holding condition store covers h
+
 pub assigned_holds : (setting : Setting) (P : Store → Type 0) (writes : List ℕ → Bool)
     → Holding setting P writes → (name : List ℕ) (operator : AssignOperator) (value : tree.Expr)
     (store : Store) → Covers writes (λ n. bytes_eq name n || expr_writes n value) → P store
     → IfOk (result_and_then (value_of setting (assigned_value name operator value) store)
     (λ given. Ok (cell_set given.1 name 0 given.0))) P
 assigned_holds setting P writes holding name operator value store covers h =
-    then_ok (value_of setting (assigned_value name operator value) store) _ (λ given. P given.1) P
-    (value_holds setting P writes holding (assigned_value name operator value) store
-    (λ n e. assigned_writes n name operator value ∙ or_second (bytes_eq name n) _ (covers n e)) h)
-    (λ given k. holding.written given.1 name 0 given.0
-    (λ n e. or_first (bytes_eq name n) _ (covers n e)) k)
-
-joined_element_holds : (setting : Setting) (P : Store → Type 0) (writes : List ℕ → Bool)
-    → Holding setting P writes → (name : List ℕ) (operator : BinaryOperator) (value : tree.Expr)
-    (at : ℤ × Store)
-    → Covers writes (bytes_eq name) → Covers writes (λ n. expr_writes n value) → P at.1
-    → IfOk (element_joined setting name operator value at) P
-joined_element_holds setting P writes holding name operator value at writes_it covers h =
-    then_ok (place_of at.1 name at.0) _ (λ place. Unit {0}) P (any_ok (place_of at.1 name at.0))
-    (λ place _.
-    then_ok (value_of setting value at.1) _ (λ given. P given.1) P
-    (value_holds setting P writes holding value at.1 covers h)
-    (λ given k.
-    then_ok (binary_value operator (cell_in at.1 name place) given.0) _ (λ new. Unit {0}) P
-    (any_ok (binary_value operator (cell_in at.1 name place) given.0))
-    (λ new _. holding.written given.1 name place new writes_it k)))
-
-element_holds : (setting : Setting) (P : Store → Type 0) (writes : List ℕ → Bool)
-    → Holding setting P writes → (name : List ℕ) (operator : AssignOperator) (value : tree.Expr)
-    (at : ℤ × Store)
-    → Covers writes (bytes_eq name) → Covers writes (λ n. expr_writes n value) → P at.1
-    → IfOk (element_set setting name operator value at) P
-element_holds setting P writes holding name assign.Set value at writes_it covers h =
-    then_ok (value_of setting value at.1) _ (λ given. P given.1) P
-    (value_holds setting P writes holding value at.1 covers h)
-    (λ given k.
-    then_ok (place_of given.1 name at.0) _ (λ place. Unit {0}) P
-    (any_ok (place_of given.1 name at.0))
-    (λ place _. holding.written given.1 name place given.0 writes_it k))
-element_holds setting P writes holding name assign.Add value at writes_it covers h =
-    joined_element_holds setting P writes holding name binary.Add value at writes_it covers h
-element_holds setting P writes holding name assign.Subtract value at writes_it covers h =
-    joined_element_holds setting P writes holding name binary.Subtract value at writes_it covers h
-element_holds setting P writes holding name assign.Multiply value at writes_it covers h =
-    joined_element_holds setting P writes holding name binary.Multiply value at writes_it covers h
-element_holds setting P writes holding name assign.Divide value at writes_it covers h =
-    joined_element_holds setting P writes holding name binary.Divide value at writes_it covers h
-element_holds setting P writes holding name assign.Remainder value at writes_it covers h =
-    joined_element_holds setting P writes holding name binary.Remainder value at writes_it covers h
+    assigned_holds_but setting P writes (λ other. false) holding name operator value store covers
+    (no_call value) h
 
 pub element_assigned_holds : (setting : Setting) (P : Store → Type 0) (writes : List ℕ → Bool)
     → Holding setting P writes → (name : List ℕ) (index : tree.Expr) (operator : AssignOperator)
@@ -319,13 +433,8 @@ pub element_assigned_holds : (setting : Setting) (P : Store → Type 0) (writes 
     → IfOk (result_and_then (value_of setting index store)
     (element_set setting name operator value)) P
 element_assigned_holds setting P writes holding name index operator value store covers h =
-    then_ok (value_of setting index store) (element_set setting name operator value)
-    (λ given. P given.1) P
-    (value_holds setting P writes holding index store
-    (λ n e. or_first (expr_writes n index) _ (or_second (bytes_eq name n) _ (covers n e))) h)
-    (λ at k. element_holds setting P writes holding name operator value at
-    (λ n e. or_first (bytes_eq name n) _ (covers n e))
-    (λ n e. or_second (expr_writes n index) _ (or_second (bytes_eq name n) _ (covers n e))) k)
+    element_assigned_holds_but setting P writes (λ other. false) holding name index operator value
+    store covers (neither _ _ (no_call index) (no_call value)) h
 
 -- ---- variables that stay
 
@@ -426,22 +535,11 @@ inner_below (suc j) (suc k) (first ∷ rest) others name e =
     inner_below j k rest others name
     (ap (λ n. is_declared (take n (drop j (scope_of rest))) name) same ∙ e)
 
--- no call changes variables inside so many outermost ones
-abbrev pub Reaches : Setting → (fields : ℕ) → Type 0
-Reaches setting fields =
-    (name : List ℕ) (values held : List ℤ) (turns : ℕ)
-    → IfOk (setting.call name values held turns) (λ called. setting.fields ≤ fields)
-
-pub reaches_fields : (setting : Setting) → Reaches setting setting.fields
-reaches_fields setting name values held turns =
-    IfOk-weaker (setting.call name values held turns) (λ called. Unit {0}) _
-    (λ called any. omega arith) (any_ok (setting.call name values held turns))
-
-same_called : (setting : Setting) (fields : ℕ) (writes : List ℕ → Bool) (before : Variables)
-    (store : Store) (called : Called) → setting.fields ≤ fields
-    → Same fields writes before store.variables
-    → Same fields writes before (after_call setting store called).variables
-same_called setting fields writes before store called reach h =
+same_called : (setting : Setting) (writes : List ℕ → Bool) (before : Variables)
+    (store : Store) (called : Called)
+    → Same setting.fields writes before store.variables
+    → Same setting.fields writes before (after_call setting store called).variables
+same_called setting writes before store called h =
     let variables = store.variables in
     let after = (after_call setting store called).variables in
     let size : length variables ≡ length before = same_size before variables h.shape in
@@ -449,44 +547,43 @@ same_called setting fields writes before store called reach h =
     record {
       shape = scope_of-after_call setting store called ∙ h.shape;
       cells = λ n name le inner unwritten.
-          let here : is_declared (take (n - fields) (drop (length variables - n)
+          let here : is_declared (take (n - setting.fields) (drop (length variables - n)
           (scope_of variables))) name ≡ true =
-          ap (λ k. is_declared (take (n - fields) (drop (k - n) (scope_of variables))) name)
-          (sym whole) ∙ ap (λ s. is_declared (take (n - fields) (below n s)) name) h.shape
+          ap (λ k. is_declared (take (n - setting.fields) (drop (k - n) (scope_of variables))) name)
+          (sym whole) ∙ ap (λ s. is_declared (take (n - setting.fields) (below n s)) name) h.shape
           ∙ inner in
           ap (λ k. cells_named (drop (k - n) after) name) (length-after_call setting store called)
           ∙ inner_below (length variables - n) (length variables - setting.fields) variables
           (revalued (fields_in setting variables) called.fields) name
-          (declared_more (n - fields) ((length variables - setting.fields)
+          (declared_more (n - setting.fields) ((length variables - setting.fields)
           - (length variables - n)) (drop (length variables - n) (scope_of variables)) name
-          (omega (arith, reach, size, le)) here)
+          (omega (arith, size, le)) here)
           ∙ h.cells n name le inner unwritten;
     }
 
-pub same_holding : (setting : Setting) (fields : ℕ) → Reaches setting fields
-    → (writes : List ℕ → Bool) (before : Variables)
-    → Holding setting (λ store. Same fields writes before store.variables) writes
-same_holding setting fields reach writes before = record {
+pub same_holding : (setting : Setting) (writes : List ℕ → Bool) (before : Variables)
+    → Holding setting (λ store. Same setting.fields writes before store.variables) writes
+same_holding setting writes before = record {
   moved = λ store traffic h. h;
   written = λ store name place value covers h.
-      same_cell fields writes before store.variables name place value covers h;
-  called = λ store name values h.
+      same_cell setting.fields writes before store.variables name place value covers h;
+  called = λ store name values any h.
       let held = values_of (fields_in setting store.variables) in
       let turns = store.traffic.turns in
-      IfOk-weaker (setting.call name values held turns) (λ called. setting.fields ≤ fields) _
-      (λ called le. same_called setting fields writes before store called le h)
-      (reach name values held turns);
+      IfOk-weaker (setting.call name values held turns) (λ called. Unit {0}) _
+      (λ called any. same_called setting writes before store called h)
+      (any_ok (setting.call name values held turns));
 }
 
 -- an evaluation leaves what its text doesn't write
-pub value_same : (setting : Setting) (fields : ℕ) → Reaches setting fields → (e : tree.Expr)
+pub value_same : (setting : Setting) (e : tree.Expr)
     (store : Store) → IfOk (value_of setting e store)
-    (λ given. Same fields (λ name. expr_writes name e) store.variables given.1.variables)
-value_same setting fields reach e store =
+    (λ given. Same setting.fields (λ name. expr_writes name e) store.variables given.1.variables)
+value_same setting e store =
     let writes : List ℕ → Bool = λ name. expr_writes name e in
-    value_holds setting (λ s. Same fields writes store.variables s.variables) writes
-    (same_holding setting fields reach writes store.variables) e store (λ name f. f)
-    (same_refl fields writes store.variables)
+    value_holds setting (λ s. Same setting.fields writes store.variables s.variables) writes
+    (same_holding setting writes store.variables) e store (λ name f. f)
+    (same_refl setting.fields writes store.variables)
 
 pub same_then : (fields : ℕ) (writes : List ℕ → Bool) (a b c : Variables) → Same fields writes a b
     → Same fields writes b c → Same fields writes a c

@@ -25,5 +25,8 @@ pub mod SafeLoops
 pub mod SafePeeks
 pub mod PeeksPromised
 pub mod Turning
+pub mod Within
+pub mod Sparing
 pub mod Kept
 pub mod Started
+pub mod WorkedRows

@@ -36,7 +36,6 @@ use Rattle.strc_interval.specs.Intervals.{names_of}
 use Rattle.strc_rate.proofs.Results.{or_first, or_second, then_ok, both_ok, above, below_all}
 use Rattle.strc_rate.proofs.Results.{above_more}
 use Rattle.strc_rate.proofs.Keeping.{Same, same_refl, same_cells, value_same, whole_inner}
-use Rattle.strc_rate.proofs.Keeping.{reaches_fields}
 use Rattle.strc_rate.proofs.Unwritten.{Done, scope_length, inside_same, stmt_keeps}
 use Rattle.strc_rate.proofs.LoopParts.{Seen, seen_after, seen_inner}
 use Rattle.strc_rate.proofs.CountedMoves.{Moves, Counted, stays, same_pops, value_counts}
@@ -432,7 +431,7 @@ ready_value setting e intervals popped store counted fixed ready =
     (λ given h. ready_same setting.fields writes intervals popped
     (expr_counts e) store given.1 counted fixed ready h.0 h.1)
     (both_ok (value_of setting e store) _ _ (value_counts setting e store)
-    (value_same setting setting.fields (reaches_fields setting) e store))
+    (value_same setting e store))
 
 pub ready_stmt : (setting : Setting) (s : tree.Stmt) (names : Scope) (intervals : Intervals)
     (popped : PopInterval) (store : Store) → IsPlain names s
@@ -456,7 +455,7 @@ ready_stmt setting s names intervals popped store closed counted fixed ready =
     })
     (both_ok (stmt_done setting s store) _ _
     (stmt_counted setting s (names_of intervals) names store closed ready.seen)
-    (stmt_keeps setting setting.fields (reaches_fields setting) s names store closed))
+    (stmt_keeps setting s names store closed))
   where
     later : (after : Store) → Done setting.fields (λ name. stmt_writes name s)
         (names_after (scope_of store.variables) s) store.variables after.variables → (name : List ℕ)
@@ -503,8 +502,7 @@ ready_inside setting s names intervals popped store closed counted fixed ready =
     (inside_same setting.fields writes writes (stmt_done setting s) store (λ name e. e)
     (IfOk-weaker (stmt_done setting s store)
     (λ after. Done setting.fields writes (names_after (scope_of store.variables) s) store.variables
-    after.variables) _ (λ after k. k.grown) (stmt_keeps setting setting.fields
-    (reaches_fields setting) s names store closed))))
+    after.variables) _ (λ after k. k.grown) (stmt_keeps setting s names store closed))))
 
 -- a condition
 pub ready_condition : (setting : Setting) (condition : Option tree.Expr) (intervals : Intervals)

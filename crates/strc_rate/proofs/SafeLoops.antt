@@ -30,7 +30,7 @@ use Rattle.strc_rate.specs.Peeks.{PopInterval, in_turns}
 use Rattle.strc_interval.specs.Intervals.{names_of}
 use Rattle.strc_rate.specs.PeeksSafe.{LoopIsSafe}
 use Rattle.strc_rate.proofs.Results.{or_first, or_second, then_ok, both_ok, ok_known, match_by}
-use Rattle.strc_rate.proofs.Keeping.{same_name, Given, Same, same_cells, reaches_fields}
+use Rattle.strc_rate.proofs.Keeping.{same_name, Given, Same, same_cells}
 use Rattle.strc_rate.proofs.Unwritten.{TurnsFree, turned_holds, inside_after, stmt_keeps}
 use Rattle.strc_rate.proofs.LoopParts.{Seen}
 use Rattle.strc_rate.proofs.CountedLoops.{HasPlace, Known, At, turn_at, test_holds, test_ends}
@@ -269,12 +269,12 @@ module _ {locals : Locals} {first : tree.Stmt} {condition : Option tree.Expr}
       (names_after (scope_of store.variables) body) begun.variables (stmt_done setting body) store
       (λ name e. or_second (stmt_writes name step) _
       (or_second (option_writes name condition) _ e))
-      (stmt_keeps setting setting.fields (reaches_fields setting) body names store closed)
+      (stmt_keeps setting body names store closed)
       here.same) (λ middle h. inside_after setting.fields writes (λ name. stmt_writes name step)
       (names_after (scope_of middle.variables) step) begun.variables (stmt_done setting step) middle
       (λ name e. or_first (stmt_writes name step) _
       (or_second (option_writes name condition) _ e))
-      (stmt_keeps setting setting.fields (reaches_fields setting) step names middle closed_step)
+      (stmt_keeps setting step names middle closed_step)
       h)))
 
   -- what is known in a turn

@@ -16,7 +16,7 @@ use Rattle.strc_semantics.proofs.Calls.{scope_of-after_call}
 use Rattle.strc_interval.specs.Loops.{stmts_write}
 use Rattle.strc_rate.proofs.Scopes.{scope_of, scope_of-with_cell}
 use Rattle.strc_rate.proofs.Results.{then_ok, any_ok}
-use Rattle.strc_rate.proofs.Keeping.{Holding, Same, value_holds, reaches_fields}
+use Rattle.strc_rate.proofs.Keeping.{Holding, Same, value_holds}
 use Rattle.strc_rate.proofs.Unwritten.{inside_same, stmts_keep}
 use Rattle.strc_rate.specs.StatelessPromises.{StartedFieldsFit}
 use Rattle.strc_rate.proofs.Kept.{bound_values}
@@ -39,7 +39,7 @@ shape_holds setting scope = record {
   moved = λ store traffic h. h;
   written = λ store name place value covers h.
       scope_of-with_cell store.variables name place value ∙ h;
-  called = λ store name values h.
+  called = λ store name values any h.
       let held = values_of (fields_in setting store.variables) in
       IfOk-weaker (setting.call name values held store.traffic.turns) (λ called. Unit {0}) _
       (λ called any. scope_of-after_call setting store called ∙ h)
@@ -93,7 +93,7 @@ inits_shape setting scope names (tree.Init block ∷ rest) store closed h =
     (IfOk-weaker (inside (stmts_done setting block) store)
     (λ after. Same setting.fields writes store.variables after.variables) _ (λ after k. k.shape ∙ h)
     (inside_same setting.fields writes writes (stmts_done setting block) store (λ name e. e)
-    (stmts_keep setting setting.fields (reaches_fields setting) block names store
+    (stmts_keep setting block names store
     (closed.0.0, closed.0.1))))
     (λ next k. inits_shape setting scope names rest next closed.1 k)
 inits_shape setting scope names (tree.Prework rates block ∷ rest) store closed h =

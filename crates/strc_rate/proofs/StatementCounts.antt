@@ -21,7 +21,7 @@ use Rattle.strc_rate.specs.Counts.{Counts, no_items, one_push, added, sequence, 
 use Rattle.strc_rate.specs.Counts.{repeated, branch_counts, expr_counts, option_counts}
 use Rattle.strc_rate.specs.Counts.{turns_counts, stmt_counts, stmts_counts}
 use Rattle.strc_rate.proofs.Results.{then_ok, both_ok, any_ok, above}
-use Rattle.strc_rate.proofs.Keeping.{Same, value_same, reaches_fields}
+use Rattle.strc_rate.proofs.Keeping.{Same, value_same}
 use Rattle.strc_rate.proofs.Unwritten.{Done, inside_same, looped_holds, stmt_keeps}
 use Rattle.strc_rate.proofs.LoopTurns.{no_moves}
 use Rattle.strc_rate.proofs.LoopParts.{constant_sound, cells_sized, Seen, seen_after}
@@ -56,7 +56,7 @@ value_in_scope setting e store =
     × IfSome (constant e) (λ v. given.0 ≡ v)) (value_counts setting e store)
     (both_ok (value_of setting e store) (λ given. Same setting.fields writes store.variables
     given.1.variables) (λ given. IfSome (constant e) (λ v. given.0 ≡ v))
-    (value_same setting setting.fields (reaches_fields setting) e store)
+    (value_same setting e store)
     (constant_sound setting e store)))
 
 -- a test of a loop, and a part that is run in each turn, in these variables
@@ -111,8 +111,7 @@ inside_parts setting s names scope x closed moves store is =
     (inside_same setting.fields writes writes (stmt_done setting s) store (λ name e. e)
     (IfOk-weaker (stmt_done setting s store)
     (λ after. Done setting.fields writes (names_after (scope_of store.variables) s) store.variables
-    after.variables) _ (λ after k. k.grown) (stmt_keeps setting setting.fields
-    (reaches_fields setting) s names store closed))))
+    after.variables) _ (λ after k. k.grown) (stmt_keeps setting s names store closed))))
 
 -- ---- loops that move nothing
 
@@ -466,7 +465,7 @@ mutual
       (both_ok (stmt_done setting first store) _ _
       (stmt_counted setting first locals names store parts.0 seen)
       (both_ok (stmt_done setting first store) _ _
-      (stmt_keeps setting setting.fields (reaches_fields setting) first names store parts.0)
+      (stmt_keeps setting first names store parts.0)
       (begins_by locals first condition step body reported setting store seen
       (loop_known locals first condition step body))))
       (λ begun h. advance_counts store_traffic store.traffic begun.traffic
@@ -510,7 +509,7 @@ mutual
       after.traffic)
       (both_ok (stmt_done setting first store) _ _
       (stmt_counted setting first locals names store parts.0 seen)
-      (stmt_keeps setting setting.fields (reaches_fields setting) first names store parts.0))
+      (stmt_keeps setting first names store parts.0))
       (λ middle h. advance_counts store_traffic store.traffic middle.traffic
       (stmt_counts locals first) (stmts_counts (locals_after locals first) rest)
       (stmts_done setting rest middle) h.0

@@ -26,7 +26,6 @@ use Rattle.strc_interval.specs.Loops.{variables_write, stmt_writes, stmts_write}
 use Rattle.strc_rate.proofs.Results.{or_first, or_second, then_ok, any_ok, below, above}
 use Rattle.strc_rate.proofs.Results.{below_below, below_map, below_all, below_more, above_more}
 use Rattle.strc_rate.proofs.Keeping.{Unwritten, Covers, Given, IsInner, Same, same_size, same_refl}
-use Rattle.strc_rate.proofs.Keeping.{Reaches}
 use Rattle.strc_rate.proofs.Unreturned.{while_ok, for_ok, block_ok}
 use Rattle.strc_rate.proofs.Unreturned.{IsPlain, ArePlain, plain_sides, plain_parts, plain_then}
 use Rattle.strc_rate.proofs.Keeping.{same_holding, same_then, value_holds, condition_holds}
@@ -155,22 +154,24 @@ unless_shadowed false written e h = e
 -- ---- declarations
 
 -- the cells of a new variable, and a store with the same variables
-initial_same : (setting : Setting) (fields : ℕ) (reach : Reaches setting fields) (cells : ℕ)
+initial_same : (setting : Setting) (cells : ℕ)
     (initial : Option tree.Expr) (store : Store)
     → FitsInitial cells initial → IfOk (initial_cells setting cells initial store)
-    (λ given. (length given.0 ≡ cells) × Same fields
+    (λ given. (length given.0 ≡ cells) × Same setting.fields
     (λ name. option_writes name initial) store.variables given.1.variables)
-initial_same setting fields reach cells None store fits =
-    (length-replicate cells (pos 0), same_refl fields _ store.variables)
-initial_same setting fields reach cells (Some initial) store fits =
+initial_same setting cells None store fits =
+    (length-replicate cells (pos 0), same_refl setting.fields _ store.variables)
+initial_same setting cells (Some initial) store fits =
     then_ok (value_of setting initial store) _
-    (λ given. Same fields (λ name. expr_writes name initial) store.variables given.1.variables)
+    (λ given. Same setting.fields
+    (λ name. expr_writes name initial) store.variables given.1.variables)
     (λ given. (length given.0 ≡ cells)
-    × Same fields (λ name. expr_writes name initial) store.variables given.1.variables)
-    (value_holds setting (λ s. Same fields (λ name. expr_writes name initial) store.variables
+    × Same setting.fields (λ name. expr_writes name initial) store.variables given.1.variables)
+    (value_holds setting
+    (λ s. Same setting.fields (λ name. expr_writes name initial) store.variables
     s.variables) (λ name. expr_writes name initial)
-    (same_holding setting fields reach _ store.variables) initial
-    store (λ name e. e) (same_refl fields _ store.variables))
+    (same_holding setting _ store.variables) initial
+    store (λ name e. e) (same_refl setting.fields _ store.variables))
     (λ given h. (sym fits, h))
 
 -- one more variable, before which nothing changes
@@ -193,46 +194,48 @@ pub record Done (fields : ℕ) (writes : List ℕ → Bool) (scope : Scope)
   pub grown : Grown fields writes before after
   pub exact : scope_of after ≡ scope
 
-variables_keep : (setting : Setting) (fields : ℕ) (reach : Reaches setting fields) (cells : ℕ)
+variables_keep : (setting : Setting) (cells : ℕ)
     (variables : List tree.Variable) (names : Scope)
     (store : Store) → AreClosedVariables names cells variables
     → IfOk (variables_declared setting cells variables store)
-    (λ after. Done fields (λ name. variables_write name variables)
+    (λ after. Done setting.fields (λ name. variables_write name variables)
     (with_declared (scope_of store.variables) cells variables) store.variables after.variables)
-variables_keep setting fields reach cells [] names store closed =
+variables_keep setting cells [] names store closed =
     record {
-      grown = grown_same fields _ store.variables store.variables
-          (same_refl fields _ store.variables);
+      grown = grown_same setting.fields _ store.variables store.variables
+          (same_refl setting.fields _ store.variables);
       exact = refl;
     }
-variables_keep setting fields reach cells (first ∷ rest) names store closed =
+variables_keep setting cells (first ∷ rest) names store closed =
     then_ok (initial_cells setting cells first.initial store) _
     (λ given. (length given.0 ≡ cells)
-    × Same fields (λ name. option_writes name first.initial) store.variables given.1.variables)
-    (λ after. Done fields (λ name. variables_write name (first ∷ rest))
+    × Same setting.fields
+    (λ name. option_writes name first.initial) store.variables given.1.variables)
+    (λ after. Done setting.fields (λ name. variables_write name (first ∷ rest))
     (with_declared (scope_of store.variables) cells (first ∷ rest)) store.variables
     after.variables)
-    (initial_same setting fields reach cells first.initial store closed.1)
+    (initial_same setting cells first.initial store closed.1)
     (λ given h.
     let begun = declared_in given.1 first.name given.0 in
     let begins : scope_of begun.variables ≡ record { 0 = first.name; 1 = cells }
     ∷ scope_of store.variables =
     ap (λ k. record { 0 = first.name; 1 = k } ∷ scope_of given.1.variables) h.0
     ∙ ap (λ s. record { 0 = first.name; 1 = cells } ∷ s) h.1.shape in
-    let here : Grown fields (λ name. option_writes name first.initial) store.variables
+    let here : Grown setting.fields (λ name. option_writes name first.initial) store.variables
     begun.variables =
-    grown_then fields (λ name. option_writes name first.initial)
+    grown_then setting.fields (λ name. option_writes name first.initial)
     (λ name. option_writes name first.initial)
     (λ name. false) (λ name. false) store.variables given.1.variables begun.variables
-    (λ name e. e) (λ name e f. refl) (same_bares fields _ store.variables given.1.variables h.1)
-    (grown_same fields _ store.variables given.1.variables h.1)
-    (declared_grown fields first.name given.0 given.1.variables) in
+    (λ name e. e) (λ name e f. refl)
+    (same_bares setting.fields _ store.variables given.1.variables h.1)
+    (grown_same setting.fields _ store.variables given.1.variables h.1)
+    (declared_grown setting.fields first.name given.0 given.1.variables) in
     IfOk-weaker (variables_declared setting cells rest begun)
-    (λ after. Done fields (λ name. variables_write name rest)
+    (λ after. Done setting.fields (λ name. variables_write name rest)
     (with_declared (scope_of begun.variables) cells rest) begun.variables after.variables) _
     (λ after k. record {
       grown =
-          grown_then fields (λ name. variables_write name (first ∷ rest))
+          grown_then setting.fields (λ name. variables_write name (first ∷ rest))
           (λ name. option_writes name first.initial) (λ name. variables_write name rest)
           (λ name. bytes_eq first.name name) store.variables begun.variables after.variables
           (λ name e. or_first (option_writes name first.initial) _ e)
@@ -242,7 +245,7 @@ variables_keep setting fields reach cells (first ∷ rest) names store closed =
           (more_bares (scope_of store.variables) first.name cells)) here k.grown;
       exact = k.exact ∙ ap (λ s. with_declared s cells rest) begins;
     })
-    (variables_keep setting fields reach cells rest
+    (variables_keep setting cells rest
     (record { 0 = first.name; 1 = cells } ∷ names) begun closed.2))
 
 -- ---- statements
@@ -332,163 +335,171 @@ plain fields writes before result h =
           k.shape;
     }) h
 
-branch_holds : (P : Store → Type 0) (test : Bool) (one other : Result Store Cause) → IfOk one P
+pub branch_holds : (P : Store → Type 0) (test : Bool) (one other : Result Store Cause) → IfOk one P
     → IfOk other P → IfOk (cond test one other) P
 branch_holds P true one other h k = h
 branch_holds P false one other h k = k
 
 -- a value that is used without a change of the variables
-used_same : (setting : Setting) (fields : ℕ) (reach : Reaches setting fields) (e : tree.Expr)
+used_same : (setting : Setting) (e : tree.Expr)
     (store : Store) (go : ℤ × Store → Result Store Cause)
     → ((given : ℤ × Store) → IfOk (go given) (λ after. after.variables ≡ given.1.variables))
     → IfOk (result_and_then (value_of setting e store) go)
-    (λ after. Same fields (λ name. expr_writes name e) store.variables after.variables)
-used_same setting fields reach e store go stays =
-    then_ok (value_of setting e store) go (λ given. Same fields
+    (λ after. Same setting.fields (λ name. expr_writes name e) store.variables after.variables)
+used_same setting e store go stays =
+    then_ok (value_of setting e store) go (λ given. Same setting.fields
     (λ name. expr_writes name e) store.variables given.1.variables)
-    (λ after. Same fields (λ name. expr_writes name e) store.variables after.variables)
-    (value_holds setting (λ s. Same fields (λ name. expr_writes name e) store.variables s.variables)
-    (λ name. expr_writes name e) (same_holding setting fields reach _ store.variables) e store
-    (λ name f. f) (same_refl fields _ store.variables))
+    (λ after. Same setting.fields (λ name. expr_writes name e) store.variables after.variables)
+    (value_holds setting
+    (λ s. Same setting.fields (λ name. expr_writes name e) store.variables s.variables)
+    (λ name. expr_writes name e) (same_holding setting _ store.variables) e store
+    (λ name f. f) (same_refl setting.fields _ store.variables))
     (λ given h. IfOk-weaker (go given) (λ after. after.variables ≡ given.1.variables) _
-    (λ after is. subst (Same fields (λ name. expr_writes name e) store.variables) (sym is) h)
+    (λ after is. subst (Same setting.fields (λ name. expr_writes name e) store.variables)
+    (sym is) h)
     (stays given))
 
 -- the turns of a `for`
-turns_same : (setting : Setting) (fields : ℕ) (reach : Reaches setting fields)
+turns_same : (setting : Setting)
     (condition : Option tree.Expr)
     (writes step_writes body_writes : List ℕ → Bool) (step body : Store → Result Store Cause)
     (scope : Store → Scope) (scope' : Store → Scope)
     → Covers writes (λ name. option_writes name condition) → Covers writes step_writes
     → Covers writes body_writes → ((store : Store)
-    → IfOk (step store) (λ after. Done fields step_writes
+    → IfOk (step store) (λ after. Done setting.fields step_writes
     (scope store) store.variables after.variables)) → ((store : Store) → IfOk (body store)
-    (λ after. Done fields body_writes (scope' store) store.variables after.variables))
+    (λ after. Done setting.fields body_writes (scope' store) store.variables after.variables))
     → (store : Store) → IfOk (looped (suc turn_limit) (condition_value setting condition)
     (λ turn. result_and_then (inside body turn) (inside step)) store)
-    (λ after. Same fields writes store.variables after.variables)
-turns_same setting fields reach condition writes step_writes body_writes step body scope scope'
+    (λ after. Same setting.fields writes store.variables after.variables)
+turns_same setting condition writes step_writes body_writes step body scope scope'
     covers covers_step covers_body steps bodies store =
-    looped_holds (λ s. Same fields writes store.variables s.variables) (λ s n h. h) (suc turn_limit)
+    looped_holds (λ s. Same setting.fields writes store.variables s.variables) (λ s n h. h)
+    (suc turn_limit)
     (condition_value setting condition) (λ turn. result_and_then (inside body turn) (inside step))
-    (λ s h. condition_holds setting (λ t. Same fields writes store.variables t.variables) writes
-    (same_holding setting fields reach writes store.variables) condition s covers h)
+    (λ s h. condition_holds setting
+    (λ t. Same setting.fields writes store.variables t.variables) writes
+    (same_holding setting writes store.variables) condition s covers h)
     (λ s h.
-    then_ok (inside body s) (inside step) (λ after. Same fields writes store.variables
-    after.variables) (λ after. Same fields writes store.variables after.variables)
-    (inside_after fields writes body_writes (scope' s) store.variables body s covers_body
-    (bodies s) h) (λ middle k. inside_after fields writes step_writes
+    then_ok (inside body s) (inside step) (λ after. Same setting.fields writes store.variables
+    after.variables) (λ after. Same setting.fields writes store.variables after.variables)
+    (inside_after setting.fields writes body_writes (scope' s) store.variables body s covers_body
+    (bodies s) h) (λ middle k. inside_after setting.fields writes step_writes
     (scope middle) store.variables step middle covers_step (steps middle) k))
-    store (same_refl fields writes store.variables)
+    store (same_refl setting.fields writes store.variables)
 
 mutual
   -- a statement of known names leaves its variables, and keeps the cells of those that it doesn't
   -- write
-  pub stmt_keeps : (setting : Setting) (fields : ℕ) (reach : Reaches setting fields) (s : tree.Stmt)
+  pub stmt_keeps : (setting : Setting) (s : tree.Stmt)
       (names : Scope) (store : Store) → IsPlain names s → IfOk (stmt_done setting s store)
-      (λ after. Done fields (λ name. stmt_writes name s)
+      (λ after. Done setting.fields (λ name. stmt_writes name s)
       (names_after (scope_of store.variables) s) store.variables after.variables)
-  stmt_keeps setting fields reach tree.Empty names store closed =
+  stmt_keeps setting tree.Empty names store closed =
       record {
-        grown = grown_same fields _ store.variables store.variables
-            (same_refl fields _ store.variables);
+        grown = grown_same setting.fields _ store.variables store.variables
+            (same_refl setting.fields _ store.variables);
         exact = refl;
       }
-  stmt_keeps setting fields reach (tree.Return value) names store closed =
+  stmt_keeps setting (tree.Return value) names store closed =
       let returned : true ≡ false = closed.1 in absurd (cc)
-  stmt_keeps setting fields reach (tree.Compose statement) names store closed =
+  stmt_keeps setting (tree.Compose statement) names store closed =
       record {
-        grown = grown_same fields _ store.variables store.variables
-            (same_refl fields _ store.variables);
+        grown = grown_same setting.fields _ store.variables store.variables
+            (same_refl setting.fields _ store.variables);
         exact = refl;
       }
-  stmt_keeps setting fields reach (tree.Block body) names store closed =
-      plain fields (λ name. stmts_write name body) store.variables
+  stmt_keeps setting (tree.Block body) names store closed =
+      plain setting.fields (λ name. stmts_write name body) store.variables
       (inside (stmts_done setting body) store)
-      (inside_same fields (λ name. stmts_write name body) (λ name. stmts_write name body)
+      (inside_same setting.fields (λ name. stmts_write name body) (λ name. stmts_write name body)
       (stmts_done setting body) store (λ name e. e)
-      (stmts_keep setting fields reach body names store closed))
-  stmt_keeps setting fields reach (tree.Declare kind variables) names store closed =
-      variables_keep setting fields reach (cells_of kind) variables names store closed.0
-  stmt_keeps setting fields reach (tree.Evaluate value) names store closed =
-      plain fields (λ name. expr_writes name value) store.variables
+      (stmts_keep setting body names store closed))
+  stmt_keeps setting (tree.Declare kind variables) names store closed =
+      variables_keep setting (cells_of kind) variables names store closed.0
+  stmt_keeps setting (tree.Evaluate value) names store closed =
+      plain setting.fields (λ name. expr_writes name value) store.variables
       (stmt_done setting (tree.Evaluate value) store)
-      (used_same setting fields reach value store _ (λ given. refl))
-  stmt_keeps setting fields reach (tree.Assign assigned operator value) names store closed =
-      plain fields _ store.variables (stmt_done setting (tree.Assign assigned operator value) store)
-      (assigned_holds setting (λ s. Same fields (λ name. stmt_writes name
+      (used_same setting value store _ (λ given. refl))
+  stmt_keeps setting (tree.Assign assigned operator value) names store closed =
+      plain setting.fields _ store.variables
+      (stmt_done setting (tree.Assign assigned operator value) store)
+      (assigned_holds setting (λ s. Same setting.fields (λ name. stmt_writes name
       (tree.Assign assigned operator value)) store.variables s.variables) (λ name. stmt_writes name
       (tree.Assign assigned operator value))
-      (same_holding setting fields reach _ store.variables) assigned operator value store
-      (λ name e. e) (same_refl fields _ store.variables))
-  stmt_keeps setting fields reach (tree.AssignElement array index operator value) names store
+      (same_holding setting _ store.variables) assigned operator value store
+      (λ name e. e) (same_refl setting.fields _ store.variables))
+  stmt_keeps setting (tree.AssignElement array index operator value) names store
       closed =
-      plain fields _ store.variables (stmt_done setting
+      plain setting.fields _ store.variables (stmt_done setting
       (tree.AssignElement array index operator value) store)
-      (element_assigned_holds setting (λ s. Same fields (λ name. stmt_writes name
+      (element_assigned_holds setting (λ s. Same setting.fields (λ name. stmt_writes name
       (tree.AssignElement array index operator value)) store.variables s.variables)
       (λ name. stmt_writes name (tree.AssignElement array index operator value))
-      (same_holding setting fields reach _ store.variables) array index operator value store
-      (λ name e. e) (same_refl fields _ store.variables))
-  stmt_keeps setting fields reach (tree.If condition chosen) names store closed =
+      (same_holding setting _ store.variables) array index operator value store
+      (λ name e. e) (same_refl setting.fields _ store.variables))
+  stmt_keeps setting (tree.If condition chosen) names store closed =
       let writes : List ℕ → Bool = λ name. expr_writes name condition || stmt_writes name chosen in
-      plain fields writes store.variables (stmt_done setting (tree.If condition chosen) store)
+      plain setting.fields writes store.variables
+      (stmt_done setting (tree.If condition chosen) store)
       (then_ok (value_of setting condition store) _
-      (λ test. Same fields writes store.variables test.1.variables)
-      (λ after. Same fields writes store.variables after.variables)
-      (value_holds setting (λ s. Same fields writes store.variables s.variables) writes
-      (same_holding setting fields reach writes store.variables) condition store
+      (λ test. Same setting.fields writes store.variables test.1.variables)
+      (λ after. Same setting.fields writes store.variables after.variables)
+      (value_holds setting (λ s. Same setting.fields writes store.variables s.variables) writes
+      (same_holding setting writes store.variables) condition store
       (λ name e. or_first (expr_writes name condition) _ e)
-      (same_refl fields writes store.variables))
-      (λ test h. branch_holds (λ after. Same fields writes store.variables after.variables)
+      (same_refl setting.fields writes store.variables))
+      (λ test h. branch_holds (λ after. Same setting.fields writes store.variables after.variables)
       (is_true test.0) (inside (stmt_done setting chosen) test.1) (Ok test.1)
-      (inside_after fields writes (λ name. stmt_writes name chosen)
+      (inside_after setting.fields writes (λ name. stmt_writes name chosen)
       (names_after (scope_of test.1.variables) chosen) store.variables
       (stmt_done setting chosen) test.1 (λ name e. or_second (expr_writes name condition) _ e)
-      (stmt_keeps setting fields reach chosen names test.1 (closed.0.1, closed.1)) h)
+      (stmt_keeps setting chosen names test.1 (closed.0.1, closed.1)) h)
       h))
-  stmt_keeps setting fields reach (tree.IfElse condition chosen other) names store closed =
+  stmt_keeps setting (tree.IfElse condition chosen other) names store closed =
       let writes : List ℕ → Bool = λ name. expr_writes name condition
       || (stmt_writes name chosen || stmt_writes name other) in
       let sides = plain_sides names condition chosen other closed in
-      plain fields writes store.variables (stmt_done setting
+      plain setting.fields writes store.variables (stmt_done setting
       (tree.IfElse condition chosen other) store) (then_ok (value_of setting condition store) _
-      (λ test. Same fields writes store.variables test.1.variables)
-      (λ after. Same fields writes store.variables after.variables)
-      (value_holds setting (λ s. Same fields writes store.variables s.variables) writes
-      (same_holding setting fields reach writes store.variables) condition store
+      (λ test. Same setting.fields writes store.variables test.1.variables)
+      (λ after. Same setting.fields writes store.variables after.variables)
+      (value_holds setting (λ s. Same setting.fields writes store.variables s.variables) writes
+      (same_holding setting writes store.variables) condition store
       (λ name e. or_first (expr_writes name condition) _ e)
-      (same_refl fields writes store.variables))
-      (λ test h. branch_holds (λ after. Same fields writes store.variables after.variables)
+      (same_refl setting.fields writes store.variables))
+      (λ test h. branch_holds (λ after. Same setting.fields writes store.variables after.variables)
       (is_true test.0) (inside (stmt_done setting chosen) test.1)
       (inside (stmt_done setting other) test.1)
-      (inside_after fields writes (λ name. stmt_writes name chosen)
+      (inside_after setting.fields writes (λ name. stmt_writes name chosen)
       (names_after (scope_of test.1.variables) chosen) store.variables
       (stmt_done setting chosen) test.1 (λ name e. or_first (stmt_writes name chosen) _
       (or_second (expr_writes name condition) _ e))
-      (stmt_keeps setting fields reach chosen names test.1 sides.0) h)
-      (inside_after fields writes (λ name. stmt_writes name other)
+      (stmt_keeps setting chosen names test.1 sides.0) h)
+      (inside_after setting.fields writes (λ name. stmt_writes name other)
       (names_after (scope_of test.1.variables) other) store.variables
       (stmt_done setting other) test.1 (λ name e. or_second (stmt_writes name chosen) _
       (or_second (expr_writes name condition) _ e))
-      (stmt_keeps setting fields reach other names test.1 sides.1) h)))
-  stmt_keeps setting fields reach (tree.While condition body) names store closed =
+      (stmt_keeps setting other names test.1 sides.1) h)))
+  stmt_keeps setting (tree.While condition body) names store closed =
       let writes : List ℕ → Bool = λ name. expr_writes name condition || stmt_writes name body in
-      plain fields writes store.variables (stmt_done setting (tree.While condition body) store)
+      plain setting.fields writes store.variables
+      (stmt_done setting (tree.While condition body) store)
       (while_ok setting condition body store
-      (λ after. Same fields writes store.variables after.variables)
+      (λ after. Same setting.fields writes store.variables after.variables)
       closed.1 (looped_holds
-      (λ s. Same fields writes store.variables s.variables) (λ s n h. h) (suc turn_limit)
+      (λ s. Same setting.fields writes store.variables s.variables) (λ s n h. h) (suc turn_limit)
       (value_of setting condition) (inside (stmt_done setting body))
-      (λ s h. value_holds setting (λ t. Same fields writes store.variables t.variables) writes
-      (same_holding setting fields reach writes store.variables) condition s
+      (λ s h. value_holds setting
+      (λ t. Same setting.fields writes store.variables t.variables) writes
+      (same_holding setting writes store.variables) condition s
       (λ name e. or_first (expr_writes name condition) _ e) h)
-      (λ s h. inside_after fields writes (λ name. stmt_writes name body)
+      (λ s h. inside_after setting.fields writes (λ name. stmt_writes name body)
       (names_after (scope_of s.variables) body) store.variables (stmt_done setting body) s
       (λ name e. or_second (expr_writes name condition) _ e)
-      (stmt_keeps setting fields reach body names s (closed.0.1, closed.1)) h)
-      store (same_refl fields writes store.variables)))
-  stmt_keeps setting fields reach (tree.For first condition step body) names store closed =
+      (stmt_keeps setting body names s (closed.0.1, closed.1)) h)
+      store (same_refl setting.fields writes store.variables)))
+  stmt_keeps setting (tree.For first condition step body) names store closed =
       let advance : List ℕ → Bool = λ name. option_writes name condition
       || (stmt_writes name step || stmt_writes name body) in
       let writes : List ℕ → Bool = λ name. stmt_writes name (tree.For first condition step body) in
@@ -497,28 +508,29 @@ mutual
       (λ turn. result_and_then (inside (stmt_done setting body) turn)
       (inside (stmt_done setting step))) in
       let parts = plain_parts names first condition step body closed in
-      plain fields writes store.variables (stmt_done setting
+      plain setting.fields writes store.variables (stmt_done setting
       (tree.For first condition step body) store) (for_ok setting first condition step body store
-      (λ after. Same fields writes store.variables after.variables)
+      (λ after. Same setting.fields writes store.variables after.variables)
       parts.2.1
-      (inside_same fields writes writes (λ outer. result_and_then
+      (inside_same setting.fields writes writes (λ outer. result_and_then
       (stmt_done setting first outer) loop) store (λ name e. e)
       (then_ok (stmt_done setting first store) loop
-      (λ begun. Done fields (λ name. stmt_writes name first)
+      (λ begun. Done setting.fields (λ name. stmt_writes name first)
       (names_after (scope_of store.variables) first) store.variables begun.variables)
-      (λ after. Grown fields writes store.variables after.variables)
-      (stmt_keeps setting fields reach first names store parts.0)
+      (λ after. Grown setting.fields writes store.variables after.variables)
+      (stmt_keeps setting first names store parts.0)
       (λ begun h.
-      IfOk-weaker (loop begun) (λ after. Same fields advance begun.variables after.variables) _
-      (λ after k. grown_then fields writes (λ name. stmt_writes name first) advance
+      IfOk-weaker (loop begun)
+      (λ after. Same setting.fields advance begun.variables after.variables) _
+      (λ after k. grown_then setting.fields writes (λ name. stmt_writes name first) advance
       (λ name. shadows name first) store.variables begun.variables after.variables
       (λ name e. or_first (stmt_writes name first) _ e)
       (λ name e f. unless_shadowed (shadows name first) (advance name)
       (or_second (stmt_writes name first) _ e) f)
       (subst (Bares (λ name. shadows name first) (scope_of store.variables)) (sym h.exact)
       (stmt_bares first (scope_of store.variables))) h.grown
-      (grown_same fields advance begun.variables after.variables k))
-      (turns_same setting fields reach condition advance (λ name. stmt_writes name step)
+      (grown_same setting.fields advance begun.variables after.variables k))
+      (turns_same setting condition advance (λ name. stmt_writes name step)
       (λ name. stmt_writes name body) (stmt_done setting step) (stmt_done setting body)
       (λ s. names_after (scope_of s.variables) step)
       (λ s. names_after (scope_of s.variables) body)
@@ -527,44 +539,46 @@ mutual
       (or_second (option_writes name condition) _ e))
       (λ name e. or_second (stmt_writes name step) _
       (or_second (option_writes name condition) _ e))
-      (λ s. stmt_keeps setting fields reach step (names_after names first) s parts.1)
-      (λ s. stmt_keeps setting fields reach body (names_after names first) s parts.2) begun)))))
-  stmt_keeps setting fields reach (tree.Push value) names store closed =
-      plain fields (λ name. expr_writes name value) store.variables
+      (λ s. stmt_keeps setting step (names_after names first) s parts.1)
+      (λ s. stmt_keeps setting body (names_after names first) s parts.2) begun)))))
+  stmt_keeps setting (tree.Push value) names store closed =
+      plain setting.fields (λ name. expr_writes name value) store.variables
       (stmt_done setting (tree.Push value) store)
-      (used_same setting fields reach value store _
+      (used_same setting value store _
       (λ given. then_ok (pushed_to setting.port given.0 given.1.traffic) _
       (λ traffic. Unit {0}) (λ after. after.variables ≡ given.1.variables)
       (any_ok (pushed_to setting.port given.0 given.1.traffic)) (λ traffic _. refl)))
-  stmt_keeps setting fields reach (tree.Print value) names store closed =
-      plain fields (λ name. expr_writes name value) store.variables
-      (stmt_done setting (tree.Print value) store) (used_same setting fields reach value store _
+  stmt_keeps setting (tree.Print value) names store closed =
+      plain setting.fields (λ name. expr_writes name value) store.variables
+      (stmt_done setting (tree.Print value) store) (used_same setting value store _
       (λ given. refl))
-  stmt_keeps setting fields reach (tree.Println value) names store closed =
-      plain fields (λ name. expr_writes name value) store.variables
-      (stmt_done setting (tree.Println value) store) (used_same setting fields reach value store _
+  stmt_keeps setting (tree.Println value) names store closed =
+      plain setting.fields (λ name. expr_writes name value) store.variables
+      (stmt_done setting (tree.Println value) store) (used_same setting value store _
       (λ given. refl))
 
-  pub stmts_keep : (setting : Setting) (fields : ℕ) (reach : Reaches setting fields)
+  pub stmts_keep : (setting : Setting)
       (s : tree.Stmts) (names : Scope) (store : Store)
       → ArePlain names s → IfOk (stmts_done setting s store)
-      (λ after. Grown fields (λ name. stmts_write name s) store.variables after.variables)
-  stmts_keep setting fields reach tree.Done names store closed =
-      grown_same fields _ store.variables store.variables (same_refl fields _ store.variables)
-  stmts_keep setting fields reach (tree.Then first rest) names store closed =
+      (λ after. Grown setting.fields (λ name. stmts_write name s) store.variables after.variables)
+  stmts_keep setting tree.Done names store closed =
+      grown_same setting.fields _ store.variables store.variables
+      (same_refl setting.fields _ store.variables)
+  stmts_keep setting (tree.Then first rest) names store closed =
       let writes : List ℕ → Bool = λ name. stmts_write name (tree.Then first rest) in
       let parts = plain_then names first rest closed in
-      block_ok setting first rest store (λ after. Grown fields writes store.variables
+      block_ok setting first rest store (λ after. Grown setting.fields writes store.variables
       after.variables) parts.0.1
       (then_ok (stmt_done setting first store) (stmts_done setting rest)
-      (λ middle. Done fields (λ name. stmt_writes name first)
+      (λ middle. Done setting.fields (λ name. stmt_writes name first)
       (names_after (scope_of store.variables) first) store.variables middle.variables)
-      (λ after. Grown fields writes store.variables after.variables)
-      (stmt_keeps setting fields reach first names store parts.0)
+      (λ after. Grown setting.fields writes store.variables after.variables)
+      (stmt_keeps setting first names store parts.0)
       (λ middle h.
       IfOk-weaker (stmts_done setting rest middle)
-      (λ after. Grown fields (λ name. stmts_write name rest) middle.variables after.variables) _
-      (λ after k. grown_then fields writes (λ name. stmt_writes name first)
+      (λ after. Grown setting.fields
+      (λ name. stmts_write name rest) middle.variables after.variables) _
+      (λ after k. grown_then setting.fields writes (λ name. stmt_writes name first)
       (λ name. stmts_write name rest)
       (λ name. shadows name first) store.variables middle.variables after.variables
       (λ name e. or_first (stmt_writes name first) _ e)
@@ -572,4 +586,4 @@ mutual
       (or_second (stmt_writes name first) _ e) f)
       (subst (Bares (λ name. shadows name first) (scope_of store.variables)) (sym h.exact)
       (stmt_bares first (scope_of store.variables))) h.grown k)
-      (stmts_keep setting fields reach rest (names_after names first) middle parts.1)))
+      (stmts_keep setting rest (names_after names first) middle parts.1)))

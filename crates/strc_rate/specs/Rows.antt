@@ -1,7 +1,9 @@
--- Worked rows: filters with a field x and an array of fields a, with one work or more.
+-- Worked rows: filters with a field x and an array of fields a, with one work or more, and with
+-- helper functions.
 use Rattle.std.specs.Prelude.{◌≡◌, ℕ, pos, true, false, List, [], ◌∷◌, Some, None}
 use Rattle.strc_syntax.specs.Tree as tree
 use Rattle.strc_syntax.specs.declared.tree.ItemType.TheVariants as item
+use Rattle.strc_syntax.specs.declared.tree.HelperType.TheVariants as gives
 use Rattle.strc_syntax.specs.declared.tree.AssignOperator.TheVariants as assign
 use Rattle.strc_syntax.specs.declared.tree.StepOperator.TheVariants as step
 use Rattle.strc_semantics.specs.Filters.{Filter}
@@ -39,6 +41,28 @@ local_x initial = tree.Declare tree.Int (record { name = x; initial = Some initi
 abbrev pub set_x : tree.Stmt
 set_x = tree.Assign x assign.Set one
 
+-- the bytes of `f` and of `g`
+abbrev pub f : List ℕ
+f = 102 ∷ []
+
+abbrev pub g : List ℕ
+g = 103 ∷ []
+
+-- `void name(..) { .. }`
+abbrev pub helper : List ℕ → (parameters : List (List ℕ)) → List tree.Stmt → tree.Member
+helper name parameters statements = tree.Helper gives.Void name parameters (tree.row statements)
+
+-- `name(1);`
+abbrev pub call : List ℕ → tree.Stmt
+call name = tree.Evaluate (tree.Call name (tree.Argument one tree.NoArgument))
+
+-- a filter whose work calls `g`, with this helper function before one that calls it: `void g(int y)
+-- { f(1); }`
+abbrev pub calling : tree.Member → Filter
+calling called =
+    filter_with called (helper g ((121 ∷ []) ∷ []) (call f ∷ []) ∷ tree.Work []
+    (tree.row (call g ∷ [])) ∷ [])
+
 -- which works leave a filter without state
 pub record StatelessRows : Type 0 where
   -- `push(x + a[1])`: a field may be read
@@ -47,7 +71,7 @@ pub record StatelessRows : Type 0 where
   -- `x = 1;`
   pub writes : is_stateless (working (set_x ∷ [])) ≡ false
   -- `int x = 1; x = 1;`
-  pub hidden : is_stateless (working (local_x one ∷ set_x ∷ [])) ≡ true
+  pub shadowed : is_stateless (working (local_x one ∷ set_x ∷ [])) ≡ true
   -- `int x = x++;`: an initialiser doesn't see its own variable
   pub own_initial : is_stateless (working (local_x (tree.Step step.IncrementAfter x) ∷ [])) ≡ false
   -- `{ int x = 1; } x = 1;`: a local ends with its block
@@ -68,3 +92,7 @@ pub record StatelessRows : Type 0 where
   -- `prework {}`
   pub prework :
       is_stateless (filter_with (tree.Prework [] tree.Done) (tree.Work [] tree.Done ∷ [])) ≡ false
+  -- `void f(int y) { x = 1; }`, which is called by what the work calls
+  pub writes_in_call : is_stateless (calling (helper f ((121 ∷ []) ∷ []) (set_x ∷ []))) ≡ false
+  -- `void f(int x) { x = 1; }`: a parameter shadows the field
+  pub shadowed_by_parameter : is_stateless (calling (helper f (x ∷ []) (set_x ∷ []))) ≡ true

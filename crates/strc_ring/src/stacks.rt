@@ -5,11 +5,12 @@ pub trait Stacks {
     fn size(&self, at: u32) -> usize;
 }
 
-/// As large as the stack that a program's own thread has on most machines.
+/// Large enough for as many calls of helper functions as may be running at once, each in the
+/// deepest loops. It is memory only as far as it is used.
 pub struct Deep;
 
 impl Stacks for Deep {
     fn size(&self, _at: u32) -> usize {
-        8 << 20
+        64 << 20
     }
 }

@@ -1,6 +1,5 @@
 -- An instance of a filter starts.
-use Rattle.std.proofs.Common.{◌≡◌, refl, sym, ap, ◌∙◌, ℕ, ℤ, Bool, true, false, not, List}
-use Rattle.std.proofs.Common.{Result, Ok, Err}
+use Rattle.std.proofs.Common.{◌≡◌, refl, sym, ap, ◌∙◌, ℕ, ℤ, List, Result, Ok, Err}
 use Rattle.std.specs.Prelude.{Option}
 use Rattle.strc_base.specs.Results.{result_and_then}
 use Rattle.strc_semantics.specs.Filters as filters
@@ -9,9 +8,7 @@ use Rattle.strc_semantics.specs.declared.fault.Cause.{Cause}
 use Rattle.strc_check.specs.Resolution.{filter_resolved}
 use Rattle.strc_check.specs.declared.error.LowerError.{LowerError}
 use Rattle.strc_statements.specs.Statements.{ruled}
-use Rattle.strc_statements.specs.declared.error.ElabError.{ElabError}
-use Rattle.strc_statements.specs.declared.error.ElabErrorKind.TheVariants as refused
-use Rattle.strc_elab.specs.Elaboration.{started_as, where_kept, has_helper}
+use Rattle.strc_elab.specs.Elaboration.{started_as}
 use Rattle.strc_elab.specs.Sound.{IsInstance}
 use Rattle.strc_graph.specs.Graphs as graphs
 
@@ -25,17 +22,13 @@ starts_by resolved filter (Ok fields) starts e =
     let same : resolved ≡ filter = cc in (fields, ap started (sym same) ∙ starts)
 starts_by resolved filter (Err cause) starts e = absurd (cc)
 
-ruled_by : (declaration : ℕ) (plain : Bool) (refusal : ElabError)
-    (resolved : Result filters.Filter LowerError) (filter : filters.Filter)
-    → result_and_then (ruled declaration resolved)
-    (λ f. where_kept plain refusal (started_as f (started f))) ≡ Ok filter → Starts filter
-ruled_by declaration true refusal (Ok resolved) filter e =
-    starts_by resolved filter (started resolved) refl e
-ruled_by declaration false refusal (Ok resolved) filter e = absurd (cc)
-ruled_by declaration plain refusal (Err broken) filter e = absurd (cc)
+ruled_by : (declaration : ℕ) (resolved : Result filters.Filter LowerError) (filter : filters.Filter)
+    → result_and_then (ruled declaration resolved) (λ f. started_as f (started f)) ≡ Ok filter
+    → Starts filter
+ruled_by declaration (Ok resolved) filter e = starts_by resolved filter (started resolved) refl e
+ruled_by declaration (Err broken) filter e = absurd (cc)
 
 pub instance_starts : (name : Option (List ℕ)) (filter : filters.Filter)
     → IsInstance (graphs.Filter name filter) → Starts filter
 instance_starts name filter is =
-    ruled_by is.0.declaration (not (has_helper is.1.members))
-    (refused.TypeMismatch is.0.declaration) (filter_resolved is.0.constants is.1) filter is.2
+    ruled_by is.0.declaration (filter_resolved is.0.constants is.1) filter is.2

@@ -4,6 +4,7 @@ pub mod WordLists
 pub mod Done
 pub mod Going
 pub mod Wanting
+pub mod Looking
 pub mod Held
 pub mod Identities
 pub mod Blocks

@@ -2,7 +2,7 @@
 use Rattle.std.specs.Prelude.{ℕ, ◌≡◌, ◌≤◌, true, false, List, [], ◌∷◌, reverse, Option, Some, None}
 use Rattle.strc_syntax.specs.Tree as tree
 use Rattle.strc_semantics.specs.Filters.{Filter, sized_fields, stmts_print}
-use Rattle.strc_semantics.specs.Returns.{stmts_return, names_hide, stmts_hide}
+use Rattle.strc_semantics.specs.Returns.{stmts_return, names_shadow, stmts_shadow, stmts_answer}
 use Rattle.strc_semantics.specs.Scoping.{Scope, cells_of, names_after, is_declared, answer_name}
 use Rattle.strc_semantics.specs.Scoping.{helper_scope}
 
@@ -91,13 +91,15 @@ AreClosedFields names cells (first ∷ rest) =
 -- a block that isn't a helper function's: it doesn't return
 abbrev pub IsClosedBody : Scope → tree.Stmts → Type 0
 IsClosedBody names block =
-    AreClosed names block × (stmts_return block ≡ false) × (stmts_hide block ≡ false)
+    AreClosed names block × (stmts_return block ≡ false) × (stmts_shadow block ≡ false)
 
--- a helper function's block, inside its parameters: it doesn't print, and nothing hides its answer
+-- a helper function's block, inside its parameters: it doesn't print, nothing shadows its answer,
+-- and nothing but a `return` writes that
 abbrev pub IsClosedHelper : Scope → (parameters : List (List ℕ)) → tree.Stmts → Type 0
 IsClosedHelper names parameters block =
     AreClosed (helper_scope names parameters) block × (stmts_print block ≡ false)
-    × (names_hide parameters ≡ false) × (stmts_hide block ≡ false)
+    × (names_shadow parameters ≡ false) × (stmts_shadow block ≡ false)
+    × (stmts_answer block ≡ false)
 
 -- a member, among the fields
 abbrev pub IsClosedMember : Scope → tree.Member → Type 0

@@ -507,14 +507,13 @@ called members (suc levels) name values held turns =
       call = called members levels;
     }) (sized_fields members) (helper_named members name) values held turns
 
--- where the statements of a filter of these members stand; no call is run as yet: a filter with a
--- helper function is refused
+-- where the statements of a filter of these members stand
 abbrev pub setting_at : List tree.Member → Port → Setting
 setting_at members port = record {
   port = port;
   fields = length (sized_fields members);
   cells = total (sized_fields members);
-  call = no_helper;
+  call = called members call_limit;
 }
 
 -- a field gets its initialiser's value, where it has one

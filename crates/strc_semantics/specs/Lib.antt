@@ -1,6 +1,7 @@
 pub mod Arithmetic
 pub mod Filters
 pub mod Scoping
+pub mod Calls
 pub mod Typing
 pub mod Returns
 pub mod Firing

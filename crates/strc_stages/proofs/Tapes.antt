@@ -2,18 +2,18 @@
 use Rattle.std.proofs.Common.{◌≡◌, refl, sym, ap, ◌∙◌, subst, ℕ, zero, suc, ◌+◌, ◌<◌, ◌≤◌, arith}
 use Rattle.std.proofs.Common.{List, [], ◌∷◌, ◌++◌, map, length, get_or, Bool, true, false, cond}
 use Rattle.std.proofs.Common.{Option, Some, slice_get, nat_lt}
-use Rattle.std.specs.Prelude.{not, ◌&&◌, is_some}
-use Rattle.std.proofs.lemmas.Bool.{and_parts, not-true}
+use Rattle.std.specs.Prelude.{not, ◌&&◌}
+use Rattle.std.proofs.lemmas.Bool.{and_parts}
 use Rattle.std.proofs.lemmas.List.{append-nil}
 use Rattle.std.proofs.lemmas.Option.{get_or_from_slice_get}
-use Rattle.strc_semantics.specs.Filters.{filter_prints, prework_block}
 use Rattle.strc_graph.specs.Graphs.{NodeCode, Graph, Scatter, Copy, Gather, Filter, Identity}
 use Rattle.strc_graph.specs.Graphs.{FileReader, FileWriter, Splitter, Joiner, gives_words}
 use Rattle.strc_graph.specs.Tapes.{tape_nodes, tape_nodes_from}
 use Rattle.strc_graph.specs.declared.graph.Fission.{Fission}
 use Rattle.strc_schedule.specs.Schedules.{ScheduleParts}
 use Rattle.strc_admissible.specs.Planned.{IsPlanned}
-use Rattle.strc_interval.specs.Stateless.{is_stateless, writes_field}
+use Rattle.strc_interval.specs.Stateless.{is_stateless}
+use Rattle.strc_rate.proofs.Kept.{no_print}
 use Rattle.strc_fiss.specs.Numbers.{is_dealt, last_part, base}
 use Rattle.strc_fiss.specs.Splitting.{code_at, copied, new_code, part_of}
 use Rattle.strc_fiss.specs.Ways.{feeds_itself, fission_of, is_alike, passes_items}
@@ -107,11 +107,7 @@ tapes_below codes = tapes_from 0 codes ∙ moved_none (below (gives codes) (leng
 
 quiet : (code : NodeCode) → is_alike (Some code) ≡ true → gives_words code ≡ false
 quiet (Filter name filter) e =
-    let stateless = (and_parts (passes_items filter) (is_stateless filter) e).1 in
-    let more = (and_parts (not (is_some (prework_block filter.members)))
-    (not (filter_prints filter) && not (writes_field filter)) stateless).1 in
-    not-true (filter_prints filter)
-    (and_parts (not (filter_prints filter)) (not (writes_field filter)) more).0
+    no_print filter (and_parts (passes_items filter) (is_stateless filter) e).1
 quiet Identity e = refl
 quiet (FileReader text) e = refl
 quiet (FileWriter text) e = absurd (cc)

@@ -55,6 +55,7 @@ fn first_push(
     let shown = match fired(rt, alloc, &code, Body::Work, window)? {
         Ok(pushes) => format!(in alloc; "{}", pushes.first().copied().unwrap_or(0))?,
         Err(Halt::Fault(Cause::PeekRange)) => String::from_str(alloc, "outside")?,
+        Err(Halt::Fault(Cause::Calls)) => String::from_str(alloc, "calls")?,
         Err(_) => String::from_str(alloc, "another halt")?,
     };
     Ok(shown)
@@ -83,6 +84,13 @@ work push 1 pop 1 peek 3 { push(peek(pop())); } over -1 2 5 => outside
 work push 1 pop 1 peek 3 { push(peek(peek(0))); pop(); } over 1 2 5 => 2
 work push 1 pop 1 peek 3 { push(peek(peek(0))); pop(); } over 2 5 9 => 9
 work push 1 pop 1 peek 3 { push(peek(peek(0))); pop(); } over 5 9 9 => outside
+int f(int n) { return n * 2; } work push 1 pop 1 { push(f(pop())); } over 21 => 42
+int f(int a, int b) { return a - b; } work push 1 pop 2 { push(f(pop(), pop())); } over 7 5 => 2
+int x; int f(int n) { x = n; return 1; } work push 1 pop 1 { push(f(pop()) + x); } over 5 => 6
+int x; int f() { x = 5; return 1; } work push 1 pop 1 { push(x + f() + pop()); } over 2 => 3
+int f(int n) { n += 1; return n; } work push 1 pop 1 { int n = 7; f(pop()); push(n); } over 2 => 7
+int f(int n) { return n > 1 ? f(n - 1) : n; } work push 1 pop 1 { push(f(pop())); } over 64 => 1
+int f(int n) { return n > 1 ? f(n - 1) : n; } work push 1 pop 1 { push(f(pop())); } over 65 => calls
 ";
 
 #[test]

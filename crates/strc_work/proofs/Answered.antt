@@ -9,8 +9,8 @@ use Rattle.strc_semantics.specs.Arithmetic.{is_true}
 use Rattle.strc_semantics.specs.Scoping.{Scope, answer_name, cells_of, with_declared, names_after}
 use Rattle.strc_semantics.specs.Scoping.{total, is_declared, slot_named, slot_of, size_named}
 use Rattle.strc_semantics.specs.Scoping.{size_of}
-use Rattle.strc_semantics.specs.Returns.{stmt_returns, stmts_return, variables_hide, stmt_hides}
-use Rattle.strc_semantics.specs.Returns.{stmts_hide}
+use Rattle.strc_semantics.specs.Returns.{stmt_returns, stmts_return, variables_shadow, stmt_shadows}
+use Rattle.strc_semantics.specs.Returns.{stmts_shadow}
 use Rattle.strc_semantics.specs.Closed.{IsNamed, IsClosedStmt, AreClosed}
 use Rattle.strc_semantics.specs.Firing.{Setting, Store, has_returned, stmt_done}
 use Rattle.strc_code.specs.Nodes.{Machine, Nodes, End, slot_value, chosen_by, nodes_done}
@@ -35,18 +35,18 @@ or_true false b P go go' e = go' e
 -- ---- names
 
 -- the answer is where it was
-pub record Unhidden (names after : Scope) : Type 0 where
+pub record Unshadowed (names after : Scope) : Type 0 where
   pub slot : slot_named after answer_name ≡ slot_named names answer_name
   pub named : is_declared after answer_name ≡ is_declared names answer_name
   pub size : size_named after answer_name ≡ size_named names answer_name
 
-unhidden_declared : (names : Scope) (cells : ℕ) (vs : List tree.Variable)
-    → variables_hide vs ≡ false → Unhidden names (with_declared names cells vs)
-unhidden_declared names cells [] hides = record { slot = refl; named = refl; size = refl }
-unhidden_declared names cells (first ∷ rest) hides =
-    let other = or_first (bytes_eq first.name answer_name) (variables_hide rest) hides in
-    let inner = unhidden_declared (record { 0 = first.name; 1 = cells } ∷ names) cells rest
-    (or_second (bytes_eq first.name answer_name) (variables_hide rest) hides) in
+unshadowed_declared : (names : Scope) (cells : ℕ) (vs : List tree.Variable)
+    → variables_shadow vs ≡ false → Unshadowed names (with_declared names cells vs)
+unshadowed_declared names cells [] shadows = record { slot = refl; named = refl; size = refl }
+unshadowed_declared names cells (first ∷ rest) shadows =
+    let other = or_first (bytes_eq first.name answer_name) (variables_shadow rest) shadows in
+    let inner = unshadowed_declared (record { 0 = first.name; 1 = cells } ∷ names) cells rest
+    (or_second (bytes_eq first.name answer_name) (variables_shadow rest) shadows) in
     record {
       slot = inner.slot
           ∙ ap (λ t. cond t (Some (total names)) (slot_named names answer_name)) other;
@@ -54,107 +54,129 @@ unhidden_declared names cells (first ∷ rest) hides =
       size = inner.size ∙ ap (λ t. cond t (Some cells) (size_named names answer_name)) other;
     }
 
-pub unhidden_after : (names : Scope) (s : tree.Stmt) → stmt_hides s ≡ false
-    → Unhidden names (names_after names s)
-unhidden_after names (tree.Declare kind variables) hides =
-    unhidden_declared names (cells_of kind) variables hides
-unhidden_after names tree.Empty hides = record { slot = refl; named = refl; size = refl }
-unhidden_after names (tree.Compose statement) hides = record {
+pub unshadowed_after : (names : Scope) (s : tree.Stmt) → stmt_shadows s ≡ false
+    → Unshadowed names (names_after names s)
+unshadowed_after names (tree.Declare kind variables) shadows =
+    unshadowed_declared names (cells_of kind) variables shadows
+unshadowed_after names tree.Empty shadows = record { slot = refl; named = refl; size = refl }
+unshadowed_after names (tree.Compose statement) shadows = record {
   slot = refl;
   named = refl;
   size =
       refl;
 }
-unhidden_after names (tree.Block body) hides = record { slot = refl; named = refl; size = refl }
-unhidden_after names (tree.Evaluate value) hides = record { slot = refl; named = refl; size = refl }
-unhidden_after names (tree.Assign name operator value) hides = record {
+unshadowed_after names (tree.Block body) shadows = record { slot = refl; named = refl; size = refl }
+unshadowed_after names (tree.Evaluate value) shadows = record {
+  slot = refl;
+  named = refl;
+  size =
+      refl;
+}
+unshadowed_after names (tree.Assign name operator value) shadows = record {
   slot = refl;
   named = refl;
   size = refl;
 }
-unhidden_after names (tree.AssignElement name index operator value) hides =
+unshadowed_after names (tree.AssignElement name index operator value) shadows =
     record { slot = refl; named = refl; size = refl }
-unhidden_after names (tree.If condition chosen) hides = record {
+unshadowed_after names (tree.If condition chosen) shadows = record {
   slot = refl;
   named = refl;
   size =
       refl;
 }
-unhidden_after names (tree.IfElse condition chosen other) hides =
+unshadowed_after names (tree.IfElse condition chosen other) shadows =
     record { slot = refl; named = refl; size = refl }
-unhidden_after names (tree.While condition body) hides = record {
+unshadowed_after names (tree.While condition body) shadows = record {
   slot = refl;
   named = refl;
   size =
       refl;
 }
-unhidden_after names (tree.For first condition step body) hides =
+unshadowed_after names (tree.For first condition step body) shadows =
     record { slot = refl; named = refl; size = refl }
-unhidden_after names (tree.Push value) hides = record { slot = refl; named = refl; size = refl }
-unhidden_after names (tree.Print value) hides = record { slot = refl; named = refl; size = refl }
-unhidden_after names (tree.Println value) hides = record { slot = refl; named = refl; size = refl }
-unhidden_after names (tree.Return value) hides = record { slot = refl; named = refl; size = refl }
+unshadowed_after names (tree.Push value) shadows = record { slot = refl; named = refl; size = refl }
+unshadowed_after names (tree.Print value) shadows = record {
+  slot = refl;
+  named = refl;
+  size = refl;
+}
+unshadowed_after names (tree.Println value) shadows = record {
+  slot = refl;
+  named = refl;
+  size =
+      refl;
+}
+unshadowed_after names (tree.Return value) shadows = record {
+  slot = refl;
+  named = refl;
+  size = refl;
+}
 
 -- there is an answer still
-pub named_after : (names : Scope) (s : tree.Stmt) → stmt_hides s ≡ false
+pub named_after : (names : Scope) (s : tree.Stmt) → stmt_shadows s ≡ false
     → IsNamed names answer_name → IsNamed (names_after names s) answer_name
-named_after names s hides named = (unhidden_after names s hides).named ∙ named
+named_after names s shadows named = (unshadowed_after names s shadows).named ∙ named
 
 -- with as many cells
-pub size_after : (names : Scope) (s : tree.Stmt) → stmt_hides s ≡ false
+pub size_after : (names : Scope) (s : tree.Stmt) → stmt_shadows s ≡ false
     → size_of (names_after names s) answer_name ≡ size_of names answer_name
-size_after names s hides = ap (λ o. unwrap_or o 0) (unhidden_after names s hides).size
+size_after names s shadows = ap (λ o. unwrap_or o 0) (unshadowed_after names s shadows).size
 
 mutual
   -- where a statement returns there is an answer
-  pub stmt_named : (s : tree.Stmt) (names : Scope) → IsClosedStmt names s → stmt_hides s ≡ false
+  pub stmt_named : (s : tree.Stmt) (names : Scope) → IsClosedStmt names s → stmt_shadows s ≡ false
       → stmt_returns s ≡ true → IsNamed names answer_name
-  stmt_named tree.Empty names closed hides returns = absurd (false≢true returns)
-  stmt_named (tree.Compose statement) names closed hides returns = absurd (false≢true returns)
-  stmt_named (tree.Block body) names closed hides returns =
-      stmts_named body names closed hides returns
-  stmt_named (tree.Declare kind variables) names closed hides returns =
+  stmt_named tree.Empty names closed shadows returns = absurd (false≢true returns)
+  stmt_named (tree.Compose statement) names closed shadows returns = absurd (false≢true returns)
+  stmt_named (tree.Block body) names closed shadows returns =
+      stmts_named body names closed shadows returns
+  stmt_named (tree.Declare kind variables) names closed shadows returns =
       absurd (false≢true returns)
-  stmt_named (tree.Evaluate value) names closed hides returns = absurd (false≢true returns)
-  stmt_named (tree.Assign name operator value) names closed hides returns =
+  stmt_named (tree.Evaluate value) names closed shadows returns = absurd (false≢true returns)
+  stmt_named (tree.Assign name operator value) names closed shadows returns =
       absurd (false≢true returns)
-  stmt_named (tree.AssignElement name index operator value) names closed hides returns =
+  stmt_named (tree.AssignElement name index operator value) names closed shadows returns =
       absurd (false≢true returns)
-  stmt_named (tree.If condition chosen) names closed hides returns =
-      stmt_named chosen names closed.1 hides returns
-  stmt_named (tree.IfElse condition chosen other) names closed hides returns =
+  stmt_named (tree.If condition chosen) names closed shadows returns =
+      stmt_named chosen names closed.1 shadows returns
+  stmt_named (tree.IfElse condition chosen other) names closed shadows returns =
       or_true (stmt_returns chosen) (stmt_returns other) (IsNamed names answer_name)
-      (stmt_named chosen names closed.1 (or_first (stmt_hides chosen) (stmt_hides other) hides))
-      (stmt_named other names closed.2 (or_second (stmt_hides chosen) (stmt_hides other) hides))
+      (stmt_named chosen names closed.1 (or_first (stmt_shadows chosen) (stmt_shadows other)
+      shadows))
+      (stmt_named other names closed.2 (or_second (stmt_shadows chosen) (stmt_shadows other)
+      shadows))
       returns
-  stmt_named (tree.While condition body) names closed hides returns =
-      stmt_named body names closed.1 hides returns
-  stmt_named (tree.For first condition step body) names closed hides returns =
-      let hides_first = or_first (stmt_hides first) (stmt_hides step || stmt_hides body) hides in
-      let hides_rest = or_second (stmt_hides first) (stmt_hides step || stmt_hides body) hides in
-      let back = sym (unhidden_after names first hides_first).named in
+  stmt_named (tree.While condition body) names closed shadows returns =
+      stmt_named body names closed.1 shadows returns
+  stmt_named (tree.For first condition step body) names closed shadows returns =
+      let shadows_first = or_first (stmt_shadows first) (stmt_shadows step || stmt_shadows body)
+      shadows in
+      let shadows_rest = or_second (stmt_shadows first) (stmt_shadows step || stmt_shadows body)
+      shadows in
+      let back = sym (unshadowed_after names first shadows_first).named in
       or_true (stmt_returns first) (stmt_returns step || stmt_returns body)
-      (IsNamed names answer_name) (stmt_named first names closed.0 hides_first)
+      (IsNamed names answer_name) (stmt_named first names closed.0 shadows_first)
       (or_true (stmt_returns step) (stmt_returns body) (IsNamed names answer_name)
       (λ r. back ∙ stmt_named step (names_after names first) closed.2
-      (or_first (stmt_hides step) (stmt_hides body) hides_rest) r)
+      (or_first (stmt_shadows step) (stmt_shadows body) shadows_rest) r)
       (λ r. back ∙ stmt_named body (names_after names first) closed.3
-      (or_second (stmt_hides step) (stmt_hides body) hides_rest) r)) returns
-  stmt_named (tree.Push value) names closed hides returns = absurd (false≢true returns)
-  stmt_named (tree.Print value) names closed hides returns = absurd (false≢true returns)
-  stmt_named (tree.Println value) names closed hides returns = absurd (false≢true returns)
-  stmt_named (tree.Return value) names closed hides returns = closed.0
+      (or_second (stmt_shadows step) (stmt_shadows body) shadows_rest) r)) returns
+  stmt_named (tree.Push value) names closed shadows returns = absurd (false≢true returns)
+  stmt_named (tree.Print value) names closed shadows returns = absurd (false≢true returns)
+  stmt_named (tree.Println value) names closed shadows returns = absurd (false≢true returns)
+  stmt_named (tree.Return value) names closed shadows returns = closed.0
 
-  stmts_named : (b : tree.Stmts) (names : Scope) → AreClosed names b → stmts_hide b ≡ false
+  stmts_named : (b : tree.Stmts) (names : Scope) → AreClosed names b → stmts_shadow b ≡ false
       → stmts_return b ≡ true → IsNamed names answer_name
-  stmts_named tree.Done names closed hides returns = absurd (false≢true returns)
-  stmts_named (tree.Then first rest) names closed hides returns =
-      let hides_first = or_first (stmt_hides first) (stmts_hide rest) hides in
+  stmts_named tree.Done names closed shadows returns = absurd (false≢true returns)
+  stmts_named (tree.Then first rest) names closed shadows returns =
+      let shadows_first = or_first (stmt_shadows first) (stmts_shadow rest) shadows in
       or_true (stmt_returns first) (stmts_return rest) (IsNamed names answer_name)
-      (stmt_named first names closed.0 hides_first)
-      (λ r. sym (unhidden_after names first hides_first).named
+      (stmt_named first names closed.0 shadows_first)
+      (λ r. sym (unshadowed_after names first shadows_first).named
       ∙ stmts_named rest (names_after names first) closed.1
-      (or_second (stmt_hides first) (stmts_hide rest) hides) r) returns
+      (or_second (stmt_shadows first) (stmts_shadow rest) shadows) r) returns
 
 -- ---- what statements leave of the answer
 
@@ -254,14 +276,15 @@ unless_answered_done setting names true code m unanswered =
 
 -- once there is an answer the rest is left out
 pub left_out : (setting : Setting) (rest : tree.Stmts) (names : Scope) (m : Machine)
-    → stmts_hide rest ≡ false → is_true (slot_value m (slot_of names answer_name)) ≡ true
+    → stmts_shadow rest ≡ false → is_true (slot_value m (slot_of names answer_name)) ≡ true
     → nodes_done setting (stmts_nodes names true rest) m ≡ Ok m
-left_out setting tree.Done names m hides answered = refl
-left_out setting (tree.Then first rest) names m hides answered =
+left_out setting tree.Done names m shadows answered = refl
+left_out setting (tree.Then first rest) names m shadows answered =
     let names' = names_after names first in
-    let same = unhidden_after names first (or_first (stmt_hides first) (stmts_hide rest) hides) in
+    let same = unshadowed_after names first (or_first (stmt_shadows first) (stmts_shadow rest)
+    shadows) in
     ap (λ t. result_and_then (chosen_by t (nodes_done setting End)
     (nodes_done setting (stmt_nodes names first)) m)
     (nodes_done setting (stmts_nodes names' true rest))) answered
-    ∙ left_out setting rest names' m (or_second (stmt_hides first) (stmts_hide rest) hides)
+    ∙ left_out setting rest names' m (or_second (stmt_shadows first) (stmts_shadow rest) shadows)
     (ap (λ o. is_true (slot_value m (unwrap_or o 0))) same.slot ∙ answered)

@@ -16,7 +16,8 @@ use Rattle.strc_semantics.proofs.Calls.{length-refilled, scope_of-revalued, scop
 use Rattle.strc_semantics.proofs.Calls.{scope_of-after_call}
 use Rattle.strc_code.specs.Nodes.{Machine, End, Call, before, after_call, call_made, nodes_done}
 use Rattle.strc_code.specs.Nodes.{nodes_room}
-use Rattle.strc_code.specs.Lowering.{expr_nodes, arguments_nodes, argument_count}
+use Rattle.strc_code.specs.Lowering.{expr_nodes, arguments_nodes}
+use Rattle.strc_semantics.specs.Calls.{argument_count}
 use Rattle.strc_code.proofs.Spelled.{nodes_room-before}
 use Rattle.strc_work.proofs.Variables.{scope_of, at, Holds, Holds-drop, length-scope_of}
 use Rattle.strc_work.proofs.Variables.{scope_of-drop, values-Holds}

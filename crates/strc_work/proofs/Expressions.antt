@@ -26,7 +26,8 @@ use Rattle.strc_code.specs.Nodes.{Machine, Nodes, End, Choice, Call, before, nod
 use Rattle.strc_code.specs.Nodes.{inst_room, nodes_room}
 use Rattle.strc_code.specs.Lowering.{variable_slot, writes_no_variable, alias_slot, unless_there}
 use Rattle.strc_code.specs.Lowering.{one, unary_step, binary_step, step_nodes, element_step_nodes}
-use Rattle.strc_code.specs.Lowering.{binary_nodes, argument_count, expr_nodes, arguments_nodes}
+use Rattle.strc_code.specs.Lowering.{binary_nodes, expr_nodes, arguments_nodes}
+use Rattle.strc_semantics.specs.Calls.{argument_count}
 use Rattle.strc_code.specs.Lowering.{operand_slot, operand_nodes}
 use Rattle.strc_work.proofs.Variables.{scope_of, at, Holds, Holds-set_above, slot_of-below}
 use Rattle.strc_work.proofs.Variables.{slot_of-value, size_of-some, size_of-is}

@@ -14,6 +14,7 @@ use Rattle.strc_check.specs.declared.error.LowerError.{LowerError}
 use Rattle.strc_semantics.specs.declared.types.ValueType.{ValueType}
 use Rattle.strc_semantics.specs.Typing.{TypedNames, type_of, names_after_fields}
 use Rattle.strc_check.specs.Resolution.{Context, ResolvedType, Work, where_kept, initial_resolved}
+use Rattle.strc_check.specs.Resolution.{is_field_taken}
 use Rattle.strc_check.specs.Resolution.{number_resolved, type_resolved, carries_items, side_of}
 use Rattle.strc_check.specs.Resolution.{start_context, helper_context, body_context, is_taken}
 use Rattle.strc_check.specs.Resolution.{rate_fits, rate_resolved, parameter_resolved, known_after}
@@ -125,11 +126,11 @@ rates_ok constants fields input output (first ∷ rest) h =
 
 field_gives : (context : Context) (fields : TypedNames) (before : List (List ℕ)) (kind : ValueType)
     (variable : tree.Variable)
-    → Gives (λ (v : tree.Variable). (has_name before variable.name ≡ false)
+    → Gives (λ (v : tree.Variable). (is_field_taken before variable.name ≡ false)
     × InitialHasType context fields variable.initial kind)
     (field_resolved context fields before kind variable)
 field_gives context fields before kind variable =
-    let there = has_name before variable.name in
+    let there = is_field_taken before variable.name in
     let Q : tree.Variable → Type 0 =
     λ v. (there ≡ false) × InitialHasType context fields variable.initial kind in
     let go : Option tree.Expr → Result tree.Variable LowerError =
@@ -141,11 +142,11 @@ field_gives context fields before kind variable =
     (λ i h. (not_true there new, h)))
 
 field_ok : (context : Context) (fields : TypedNames) (before : List (List ℕ)) (kind : ValueType)
-    (variable : tree.Variable) → has_name before variable.name ≡ false
+    (variable : tree.Variable) → is_field_taken before variable.name ≡ false
     → InitialHasType context fields variable.initial kind
     → IsOk (field_resolved context fields before kind variable)
 field_ok context fields before kind variable new h =
-    let there = has_name before variable.name in
+    let there = is_field_taken before variable.name in
     let go : Option tree.Expr → Result tree.Variable LowerError =
     λ i. Ok (record { name = variable.name; initial = i }) in
     let initial = initial_resolved context fields kind variable.initial in
@@ -161,7 +162,7 @@ fields_give context fields before kind (first ∷ rest) =
     let Q : List tree.Variable → Type 0 =
     λ v. AreFields context fields before kind (first ∷ rest) in
     let later = first.name ∷ before in
-    then_gives (λ (v : tree.Variable). (has_name before first.name ≡ false)
+    then_gives (λ (v : tree.Variable). (is_field_taken before first.name ≡ false)
     × InitialHasType context fields first.initial kind) Q
     (field_resolved context fields before kind first)
     (λ f. result_and_then (fields_resolved context fields later kind rest) (λ r. Ok (f ∷ r)))

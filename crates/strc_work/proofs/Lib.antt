@@ -16,7 +16,8 @@ pub mod Assignments
 pub mod StatementRuns
 pub mod FilterRuns
 pub mod Printing
-pub mod Uncalled
+pub mod CallTells
+pub mod TopCalls
 pub mod Answering
 pub mod Adding
 pub mod Runs

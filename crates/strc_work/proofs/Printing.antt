@@ -27,7 +27,8 @@ use Rattle.strc_code.specs.Nodes.{Nodes, End, Act, Choice, Loop, Call, before}
 use Rattle.strc_code.specs.Nodes.{inst_prints, nodes_print}
 use Rattle.strc_code.specs.Lowering.{unless_there, variable_slot, alias_slot, writes_no_variable}
 use Rattle.strc_code.specs.Lowering.{one, unary_step, binary_step, step_nodes, element_step_nodes}
-use Rattle.strc_code.specs.Lowering.{binary_nodes, argument_count, expr_nodes, arguments_nodes}
+use Rattle.strc_code.specs.Lowering.{binary_nodes, expr_nodes, arguments_nodes}
+use Rattle.strc_semantics.specs.Calls.{argument_count}
 use Rattle.strc_code.specs.Lowering.{operand_slot, operand_nodes}
 use Rattle.strc_code.specs.Lowering.{evaluation_nodes, used_nodes, compound_nodes, element_nodes}
 use Rattle.strc_code.specs.Lowering.{initial_nodes, variables_nodes, condition_nodes}

@@ -6,7 +6,7 @@ use Rattle.strc_syntax.specs.Tree as tree
 use Rattle.strc_semantics.specs.declared.fault.Cause.{Cause}
 use Rattle.strc_semantics.specs.Arithmetic.{is_true}
 use Rattle.strc_semantics.specs.Scoping.{Scope, answer_name, total, names_after, slot_of}
-use Rattle.strc_semantics.specs.Returns.{stmt_hides, stmts_hide}
+use Rattle.strc_semantics.specs.Returns.{stmt_shadows, stmts_shadow}
 use Rattle.strc_semantics.specs.Closed.{IsNamed, IsClosedStmt, AreClosed}
 use Rattle.strc_semantics.specs.Firing.{Setting, Variables, Store, block_left, inside}
 use Rattle.strc_semantics.specs.Firing.{has_returned, stmt_done, stmts_done}
@@ -34,14 +34,14 @@ pub record ReachesOn (names : Scope) (size : ℕ) (given : Store) (after : Machi
   pub holds : Holds given.variables after.slots
   pub same : length after.slots ≡ size
 
--- each name of a statement is declared, nothing hides the answer, and a `return` is an answer
+-- each name of a statement is declared, nothing shadows the answer, and a `return` is an answer
 abbrev pub IsRunnable : Setting → Scope → tree.Stmt → Type 0
 IsRunnable setting names s =
-    IsClosedStmt names s × (stmt_hides s ≡ false) × Answers setting names s
+    IsClosedStmt names s × (stmt_shadows s ≡ false) × Answers setting names s
 
 abbrev pub AreRunnable : Setting → Scope → (returns : Bool) → tree.Stmts → Type 0
 AreRunnable setting names returns b =
-    AreClosed names b × (stmts_hide b ≡ false) × AnswersAll setting names returns b
+    AreClosed names b × (stmts_shadow b ≡ false) × AnswersAll setting names returns b
 
 abbrev pub RunsStmt : Setting → tree.Stmt → Type 0
 RunsStmt setting s = (names : Scope) (store : Store) (slots : List ℤ) → IsRunnable setting names s

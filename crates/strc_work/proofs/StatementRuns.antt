@@ -13,7 +13,7 @@ use Rattle.strc_code.specs.declared.inst.Inst.TheVariants as act
 use Rattle.strc_semantics.specs.Arithmetic.{is_true}
 use Rattle.strc_semantics.specs.Scoping.{Scope, answer_name, cells_of, total, slot_of, size_of}
 use Rattle.strc_semantics.specs.Scoping.{names_after}
-use Rattle.strc_semantics.specs.Returns.{stmt_returns, stmt_hides, stmts_hide}
+use Rattle.strc_semantics.specs.Returns.{stmt_returns, stmt_shadows, stmts_shadow}
 use Rattle.strc_semantics.specs.Closed.{IsNamed, IsClosed}
 use Rattle.strc_semantics.specs.Firing.{Setting, Store, Traffic, value_of, pushed_to, printed}
 use Rattle.strc_semantics.specs.Firing.{assigned, assigned_value, turn_limit, looped}
@@ -244,15 +244,16 @@ for_runs setting first condition step body run_first run_step run_body names sto
     let room_test : nodes_room test ≤ size = omega (arith, nodes_room-before a b) in
     let room_slot : slot + 1 ≤ size = omega (arith, nodes_room-before a b) in
     let room_turn : nodes_room turn ≤ size = omega (arith, nodes_room-before a b) in
-    let shown_first = or_first (stmt_hides first) (stmt_hides step || stmt_hides body) runnable.1 in
-    let shown_later = or_second (stmt_hides first) (stmt_hides step || stmt_hides body)
+    let shown_first = or_first (stmt_shadows first) (stmt_shadows step || stmt_shadows body)
+    runnable.1 in
+    let shown_later = or_second (stmt_shadows first) (stmt_shadows step || stmt_shadows body)
     runnable.1 in
     let runnable_first : IsRunnable setting names first =
     (runnable.0.0, shown_first, runnable.2.0) in
     let runnable_step : IsRunnable setting names' step =
-    (runnable.0.2, or_first (stmt_hides step) (stmt_hides body) shown_later, runnable.2.1) in
+    (runnable.0.2, or_first (stmt_shadows step) (stmt_shadows body) shown_later, runnable.2.1) in
     let runnable_body : IsRunnable setting names' body =
-    (runnable.0.3, or_second (stmt_hides step) (stmt_hides body) shown_later, runnable.2.2) in
+    (runnable.0.3, or_second (stmt_shadows step) (stmt_shadows body) shown_later, runnable.2.2) in
     let turns : Store → Result Store Cause =
     λ turning. result_and_then (inside (stmt_done setting body) turning)
     (unless_returned returns (inside (stmt_done setting step))) in
@@ -520,9 +521,11 @@ mutual
       let room_c : nodes_room c ≤ length slots =
       omega (arith, nodes_room-before a (Choice slot b c End)) in
       let runnable_chosen : IsRunnable setting names chosen =
-      (runnable.0.1, or_first (stmt_hides chosen) (stmt_hides other) runnable.1, runnable.2.0) in
+      (runnable.0.1, or_first (stmt_shadows chosen) (stmt_shadows other) runnable.1, runnable.2.0)
+      in
       let runnable_other : IsRunnable setting names other =
-      (runnable.0.2, or_second (stmt_hides chosen) (stmt_hides other) runnable.1, runnable.2.1) in
+      (runnable.0.2, or_second (stmt_shadows chosen) (stmt_shadows other) runnable.1, runnable.2.1)
+      in
       choice_runs setting condition b c (inside (stmt_done setting chosen))
       (inside (stmt_done setting other)) names store slots runnable.0.0 stands ready room
       (λ given m reaches. inside_goes_on setting chosen (stmt_runs setting chosen) names
@@ -588,8 +591,8 @@ mutual
       let room_first : nodes_room code ≤ size =
       omega (arith, nodes_room-before a b, unless_answered_room names returns code) in
       let room_b : nodes_room b ≤ size = omega (arith, nodes_room-before a b) in
-      let shown_first = or_first (stmt_hides first) (stmts_hide rest) runnable.1 in
-      let shown_rest = or_second (stmt_hides first) (stmts_hide rest) runnable.1 in
+      let shown_first = or_first (stmt_shadows first) (stmts_shadow rest) runnable.1 in
+      let shown_rest = or_second (stmt_shadows first) (stmts_shadow rest) runnable.1 in
       let first_is : nodes_done setting a machine ≡ nodes_done setting code machine =
       unless_answered_done setting names returns code machine
       (λ r. let none = unanswered r in

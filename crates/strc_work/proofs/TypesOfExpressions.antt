@@ -22,7 +22,8 @@ use Rattle.strc_check.specs.Resolution.{element_typed, step_element_typed, expr_
 use Rattle.strc_check.specs.Resolution.{initial_resolved, Called, called_as, called_among}
 use Rattle.strc_check.specs.Resolution.{call_given, value_called, called_typed, arguments_resolved}
 use Rattle.strc_check.specs.declared.signatures.Signature.{Signature}
-use Rattle.strc_check.specs.Signatures.{Signatures, given_type, argument_count}
+use Rattle.strc_check.specs.Signatures.{Signatures, given_type}
+use Rattle.strc_semantics.specs.Calls.{argument_count}
 use Rattle.strc_check.specs.declared.error.LowerErrorKind.TheVariants as refused
 use Rattle.strc_syntax.specs.declared.tree.HelperType.{HelperType}
 use Rattle.strc_syntax.specs.declared.tree.HelperType.TheVariants as helper

@@ -328,7 +328,7 @@ truth = gives helper.Boolean g [] (tree.Return (Some (tree.Truth true)) ∷ [])
 
 -- a call of a later helper function, as a value and as a statement; in a field's initialiser and
 -- in `init`; one that calls itself; calls that give nothing, and a truth; a field of the same name;
--- a parameter that hides a field, and a local that hides a parameter; one that writes a field
+-- a parameter that shadows a field, and a local that shadows a parameter; one that writes a field
 abbrev pub helped : List Filter
 helped =
     still (does (tree.Evaluate (calls f (calls f (number 1 ∷ []) ∷ [])) ∷ []) ∷ same ∷ [])

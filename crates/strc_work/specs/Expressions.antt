@@ -4,7 +4,8 @@ use Rattle.std.specs.Prelude.{IsSome}
 use Rattle.strc_base.specs.Names.{value_named}
 use Rattle.strc_syntax.specs.Tree as tree
 use Rattle.strc_syntax.specs.declared.tree.HelperType.{HelperType}
-use Rattle.strc_check.specs.Signatures.{Signatures, given_type, argument_count}
+use Rattle.strc_check.specs.Signatures.{Signatures, given_type}
+use Rattle.strc_semantics.specs.Calls.{argument_count}
 use Rattle.strc_semantics.specs.declared.types.ValueType.{ValueType}
 use Rattle.strc_semantics.specs.declared.types.ValueType.TheVariants.{Int, Boolean, Array}
 use Rattle.strc_semantics.specs.Typing.{TypedNames, is_array}

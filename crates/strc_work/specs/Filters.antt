@@ -7,6 +7,7 @@ use Rattle.strc_semantics.specs.Filters.{Filter, work_count}
 use Rattle.strc_semantics.specs.declared.types.ValueType.{ValueType}
 use Rattle.strc_semantics.specs.Typing.{TypedNames, type_of, names_after_fields}
 use Rattle.strc_check.specs.Resolution.{Context, carries_items, side_of, start_context}
+use Rattle.strc_check.specs.Resolution.{is_field_taken}
 use Rattle.strc_check.specs.Resolution.{helper_context, body_context, is_taken, known_after}
 use Rattle.strc_check.specs.Signatures.{Signatures, signatures_after, with_parameters}
 use Rattle.strc_semantics.specs.declared.types.ValueType.TheVariants.{Int}
@@ -28,13 +29,13 @@ AreRates constants fields input output [] = Unit {0}
 AreRates constants fields input output (first ∷ rest) =
     IsRate constants fields input output first × AreRates constants fields input output rest
 
--- fields of this type: none has the name of an earlier one, and an initialiser, which sees all
--- fields, has their type
+-- fields of this type: none has a name that is taken, and an initialiser, which sees all fields,
+-- has their type
 abbrev pub AreFields : Context → (fields : TypedNames) (before : List (List ℕ)) → ValueType
     → List tree.Variable → Type 0
 AreFields context fields before kind [] = Unit {0}
 AreFields context fields before kind (first ∷ rest) =
-    IsFalse (has_name before first.name) × InitialHasType context fields first.initial kind
+    IsFalse (is_field_taken before first.name) × InitialHasType context fields first.initial kind
     × AreFields context fields (first.name ∷ before) kind rest
 
 -- the parameters of a helper function, which are numbers: none has a name that is taken

@@ -3,11 +3,7 @@ use Rattle.std.specs.Prelude.{ℕ, List, length}
 use Rattle.strc_syntax.specs.Tree as tree
 use Rattle.strc_semantics.specs.Filters.{sized_fields}
 use Rattle.strc_semantics.specs.Scoping.{total}
-use Rattle.strc_semantics.specs.Firing.{Port, Setting, called, no_helper}
-
--- where no call is run
-abbrev pub uncalled : Port → Setting
-uncalled port = record { port = port; fields = 0; cells = 0; call = no_helper }
+use Rattle.strc_semantics.specs.Firing.{Port, Setting, called}
 
 -- where the code of a filter of these members stands, and so many more calls may be running at once
 abbrev pub level_setting : List tree.Member → (levels : ℕ) → Port → Setting

@@ -9,7 +9,8 @@ use Rattle.strc_semantics.specs.declared.types.ValueType.{ValueType}
 use Rattle.strc_semantics.specs.declared.types.ValueType.TheVariants.{Int, Boolean, Array}
 use Rattle.strc_semantics.specs.Typing.{TypedNames, type_of, names_after}
 use Rattle.strc_check.specs.Resolution.{Context, is_taken}
-use Rattle.strc_check.specs.Signatures.{given_type, argument_count}
+use Rattle.strc_check.specs.Signatures.{given_type}
+use Rattle.strc_semantics.specs.Calls.{argument_count}
 use Rattle.strc_syntax.specs.declared.tree.HelperType.{HelperType}
 use Rattle.strc_work.specs.Expressions.{IsVariable, SeesVariable, HasType, InitialHasType, Calls}
 use Rattle.strc_work.specs.Expressions.{AreNumbers}

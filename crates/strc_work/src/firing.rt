@@ -8,6 +8,7 @@ ghost use Rattle.strc_work.specs.Answers.{Starts, Fires, WantsGivenWords};
 ghost use Rattle.strc_work.specs.StartErrors.{start_error_of};
 ghost use Rattle.strc_work.specs.States.{IsStateOf, IsFrameOf};
 
+use crate::calls::Calls;
 use crate::code::Code;
 use crate::frame::Frame;
 use crate::machine;
@@ -109,7 +110,11 @@ fn start_code(code: &Code, alloc: Global) -> Result<State, StartError>
     ensures state { IfOk result (λ state. IsStateOf (filters.filter_of code.now) state) }
 {
     let fields = code.field_count();
-    let Ok(mut slots) = Vec::from_elem(alloc, 0, code.slot_count()) else {
+    let room = code.slot_count();
+    let Some(places) = room.checked_add(code.saved_count()) else {
+        return Err(StartError::NoMemory);
+    };
+    let Ok(mut slots) = Vec::from_elem(alloc, 0, places) else {
         return Err(StartError::NoMemory);
     };
     let mut io = FiringIo::new(alloc, Vec::new(alloc));
@@ -120,7 +125,16 @@ fn start_code(code: &Code, alloc: Global) -> Result<State, StartError>
     };
     let nothing: &[i32] = &[];
     let port = FiringPort::new(limits, &nothing);
-    match machine::run(&code.start_routine().flat, &mut slots, &mut io, &port) {
+    let calls = Calls::new(code);
+    let (own, saved) = slots.split_at_mut(room);
+    match machine::run(
+        &code.start_routine().flat,
+        own,
+        &mut io,
+        &port,
+        &calls,
+        saved,
+    ) {
         Ok(()) => Ok(State { slots, fields }),
         Err(halt) => Err(start_error(halt)),
     }
@@ -164,7 +178,9 @@ fn fire_code<W: Window>(
     let routine = code.routine(body);
     let port = FiringPort::new(routine.limits, window);
     frame.io.begin(words);
-    let result = machine::run(&routine.flat, &mut state.slots, &mut frame.io, &port);
+    let calls = Calls::new(code);
+    let (own, saved) = state.slots.split_at_mut(code.slot_count());
+    let result = machine::run(&routine.flat, own, &mut frame.io, &port, &calls, saved);
     frame.io.end(words);
     result
 }

@@ -9,6 +9,7 @@
 #![tactic(auto)]
 
 mod apart;
+pub mod calls;
 mod counted_loop;
 pub mod firing;
 pub mod frame;

@@ -5,7 +5,8 @@ use Rattle.strc_syntax.specs.Tree as tree
 use Rattle.strc_syntax.specs.View.{expr_view, listed_view}
 use Rattle.strc_syntax.proofs.Calls.{expr_view-Call, listed_view-drop}
 use Rattle.strc_code.specs.Nodes.{Nodes, before}
-use Rattle.strc_code.specs.Lowering.{argument_count, expr_nodes, arguments_nodes}
+use Rattle.strc_code.specs.Lowering.{expr_nodes, arguments_nodes}
+use Rattle.strc_semantics.specs.Calls.{argument_count}
 use Rattle.strc_code.proofs.Nodes.{before_end}
 use Rattle.strc_lowering.specs.Written.{written}
 use Rattle.strc_lowering.proofs.Emitted.{arguments_nodes_more}

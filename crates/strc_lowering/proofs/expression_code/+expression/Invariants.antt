@@ -2,7 +2,8 @@ use Rattle.std.proofs.Common.{◌≡◌, ◌+◌, ◌*◌, max, drop}
 use Rattle.strc_syntax.specs.View.{listed_view}
 use Rattle.strc_syntax.proofs.tree.Expr.TheLaws.{the_size}
 use Rattle.strc_code.specs.Nodes.{before}
-use Rattle.strc_code.specs.Lowering.{argument_count, arguments_nodes}
+use Rattle.strc_code.specs.Lowering.{arguments_nodes}
+use Rattle.strc_semantics.specs.Calls.{argument_count}
 use Rattle.strc_lowering.specs.Written.{written}
 use Rattle.strc_lowering.proofs.expression_code.+expression.Given as goal
 

@@ -1,0 +1,74 @@
+-- What a firing may call, of which none is running.
+use Rattle.std.proofs.Common.{◌≡◌, ℕ, zero, suc, ◌+◌, ◌-◌, ◌*◌, ◌≤◌, Bool, true, false, cond, ℤ}
+use Rattle.std.proofs.Common.{pos, List}
+use Rattle.std.proofs.Common.{[], ◌∷◌, take, replicate, refl, ap, ◌∙◌, arith}
+use Rattle.std.specs.Prelude.{nat_lt}
+use Rattle.strc_syntax.specs.declared.tree.FilterTree.{FilterTree}
+use Rattle.strc_semantics.specs.Filters.{filter_of, sized_fields}
+use Rattle.strc_semantics.specs.Scoping.{total}
+use Rattle.strc_semantics.specs.Firing.{Port, setting_at, call_limit}
+use Rattle.strc_semantics.proofs.Turns.{call_limit-is}
+use Rattle.strc_code.specs.Lowering.{field_scope, slot_count, helpers_room}
+use Rattle.strc_code.specs.Helpers.{saved_count}
+use Rattle.strc_code.proofs.HelperRooms.{codes_room-is}
+use Rattle.strc_work.specs.Settings.{level_setting}
+use Rattle.strc_work.specs.Calls.{Callable, IsCallable, filter_in, save_room, setting_in}
+
+-- they stand in the filter's setting
+pub top_setting : (calls : Callable) (tree : FilterTree) (port : Port) → calls.tree ≡ tree
+    → calls.levels ≡ call_limit → setting_in calls port ≡ setting_at (filter_of tree).members port
+top_setting calls tree port tree_is levels_are =
+    ap (λ t. level_setting (filter_of t).members calls.levels port) tree_is
+    ∙ ap (λ n. level_setting (filter_of tree).members n port) levels_are
+
+room_as : (calls : Callable) → IsCallable calls
+    → calls.room ≡ helpers_room (field_scope (filter_in calls)) (filter_in calls).members
+room_as calls is =
+    is.room_is ∙ codes_room-is (field_scope (filter_in calls)) (filter_in calls).members
+    calls.helpers is.helpers_are
+
+-- a filter's slots are enough for each call
+pub callable_runs : (calls : Callable) (tree : FilterTree) → IsCallable calls → calls.tree ≡ tree
+    → calls.room ≤ slot_count (filter_of tree)
+callable_runs calls tree is tree_is =
+    omega (arith, room_as calls is, ap (λ t. slot_count (filter_of t)) tree_is)
+
+saves_by : (t : Bool) (room fields slots levels : ℕ) → room ≤ slots → levels ≡ 64
+    → cond t ((room - fields) + levels * (room - fields)) 0
+    ≤ cond t ((slots - fields) + 64 * (room - fields)) 0
+saves_by true room fields slots levels le limit =
+    omega (arith, le, ap (λ n. n * (room - fields)) limit)
+saves_by false room fields slots levels le limit = omega arith
+
+-- and so are the places for what is saved
+pub callable_saves : (calls : Callable) (tree : FilterTree) → IsCallable calls
+    → calls.tree ≡ tree → calls.levels ≡ call_limit → save_room calls ≤ saved_count (filter_of tree)
+callable_saves calls tree is tree_is levels_are =
+    let filter = filter_in calls in
+    let rooms = room_as calls is in
+    let less = saves_by (nat_lt 0 calls.room) calls.room calls.fields (slot_count filter)
+    calls.levels (omega (arith, rooms)) (levels_are ∙ call_limit-is) in
+    let same : cond (nat_lt 0 calls.room)
+    ((slot_count filter - calls.fields) + 64 * (calls.room - calls.fields)) 0
+    ≡ saved_count (filter_of tree) =
+    ap (λ n. cond (nat_lt 0 n) ((slot_count filter - calls.fields) + 64 * (n - calls.fields)) 0)
+    rooms
+    ∙ ap (λ k. cond (nat_lt 0 (helpers_room (field_scope filter) filter.members))
+    ((slot_count filter - k) + 64 * (helpers_room (field_scope filter) filter.members - k)) 0)
+    is.fields_are
+    ∙ ap (λ t. saved_count (filter_of t)) tree_is in
+    omega (arith, less, same)
+
+-- ---- the first of the slots
+
+pub take_own : (n k : ℕ) (slots : List ℤ) → n ≤ k → take n (take k slots) ≡ take n slots
+take_own zero k slots le = refl
+take_own (suc n) zero slots le = absurd (omega (arith, le))
+take_own (suc n) (suc k) [] le = refl
+take_own (suc n) (suc k) (first ∷ rest) le =
+    ap (λ l. first ∷ l) (take_own n k rest (omega (arith, le)))
+
+pub take_zeros : (n m : ℕ) → n ≤ m → take n (replicate m (pos 0)) ≡ replicate n (pos 0)
+take_zeros zero m le = refl
+take_zeros (suc n) zero le = absurd (omega (arith, le))
+take_zeros (suc n) (suc m) le = ap (λ l. pos 0 ∷ l) (take_zeros n m (omega (arith, le)))
