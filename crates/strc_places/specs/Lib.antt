@@ -1,4 +1,5 @@
 pub mod Keywords
 pub mod Occurrences
 pub mod Parts
+pub mod Refused
 pub mod Spelling

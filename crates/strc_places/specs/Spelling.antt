@@ -22,3 +22,14 @@ IsUnwritten text tokens bytes = All (λ token. Spells text token.span bytes → 
 abbrev pub Marks : List ℕ → List Token → List ℕ → Option Span → Type 0
 Marks text tokens bytes None = IsUnwritten text tokens bytes
 Marks text tokens bytes (Some place) = Spells text place bytes ⊎ IsUnwritten text tokens bytes
+
+-- a place begins with these bytes, and ends within the text
+pub record Begins (text : List ℕ) (place : Span) (bytes : List ℕ) : Type 0 where
+  pub within : place.end ≤ length text
+  pub written : take (length bytes) (between text place) ≡ bytes
+
+-- what is marked where these bytes are sought at the start of a place: a place that begins with
+-- them, unless no token of the text is spelled so
+abbrev pub MarksFrom : List ℕ → List Token → List ℕ → Option Span → Type 0
+MarksFrom text tokens bytes None = IsUnwritten text tokens bytes
+MarksFrom text tokens bytes (Some place) = Begins text place bytes ⊎ IsUnwritten text tokens bytes

@@ -1,7 +1,12 @@
 // Which part of a text a refusal is about.
 
-ghost use Rattle.std.specs.Prelude.{◌≡◌, IfOk, List, ℕ};
+ghost use Rattle.std.specs.Prelude.{◌≡◌, Bool, IfOk, IfSome, List, ℕ};
+ghost use Rattle.std.specs.Option.{option_map};
+ghost use Rattle.strc_lex.specs.KeywordTexts.{keyword_text};
+ghost use Rattle.strc_lex.specs.declared.token.Keyword.TheVariants as keyword;
+ghost use Rattle.strc_semantics.specs.Filters.{filter_of};
 ghost use Rattle.strc_places.specs.Keywords as keywords;
+ghost use Rattle.strc_places.specs.Refused as marks;
 ghost use Rattle.strc_places.specs.Spelling as spelling;
 ghost use Rattle.strc_refusal.specs.declared.refusal.Refusal.TheVariants as refused_for;
 
@@ -11,7 +16,7 @@ use crate::known::Known;
 use crate::moved::{moved_of, place_of_rate};
 use crate::origins::{ends_of, place_of_channel, place_of_node};
 use crate::recursion::recursive_statement;
-use crate::spelling::spelled_or_first;
+use crate::spelling::{beginning_or_first, first_spelled, spelled_or_first};
 use crate::starts::faulting_start;
 use strc_base::memory::NoMemory;
 use strc_base::place::Span;
@@ -23,7 +28,7 @@ use strc_refusal::refusal::Refusal;
 use strc_refusal::refused::Refused;
 use strc_semantics::fault::Cause;
 use strc_source::counts::{large_channel, rates_of};
-use strc_source::tokens::{count_of, first_keyword, keyword_before};
+use strc_source::tokens::{count_of, keyword_before};
 use strc_syntax::tree::CompositeKind;
 
 /// In a text of more tokens no unused declaration is looked for.
@@ -32,21 +37,38 @@ const MOST_TOKENS: usize = 10_000;
 /// The part of the text that a refusal is about, where there is one.
 pub fn place_of_refusal(known: Known<'_>, refused: &Refused) -> Result<Option<Span>, NoMemory>
     // Of a name that isn't declared a place is marked where it is written.
-    ensures { (name : List ℕ) → refused.now ≡ refused_for.UnknownName name
+    ensures undeclared { (name : List ℕ) → refused.now ≡ refused_for.UnknownName name
         → IfOk result (λ place. spelling.Marks known.entry.source.text.now
         known.entry.source.tokens.now name place) }
+    // Of nodes that wait for one another, or fire without end before the first round, a feedback
+    // loop is marked.
+    ensures unbounded { refused.now ≡ refused_for.StartupUnbounded
+        → IfOk result (λ place. spelling.Marks known.entry.source.text.now
+        known.entry.source.tokens.now (keyword_text keyword.Feedbackloop) place) }
+    ensures deadlock { (in_startup : Bool) → refused.now ≡ refused_for.Deadlock in_startup
+        → IfOk result (λ place. spelling.Marks known.entry.source.text.now
+        known.entry.source.tokens.now (keyword_text keyword.Feedbackloop) place) }
+    // Of a rate that breaks a rule a place is marked that begins as it is written.
+    ensures mismatch { (node declared counted : ℕ)
+        → refused.now ≡ refused_for.RateMismatch node declared counted → IfOk result (λ place.
+        IfSome (marks.filter_at (option_map (λ g. g.now) known.entry.graph) node) (λ filter.
+        marks.MarksRate known.entry.source.text.now known.entry.source.tokens.now filter
+        (marks.is_wrong filter) place)) }
+    ensures limit { (node : ℕ) → refused.now ≡ refused_for.RateLimit node → IfOk result (λ place.
+        IfSome (marks.filter_at (option_map (λ g. g.now) known.entry.graph) node) (λ filter.
+        marks.MarksRate known.entry.source.text.now known.entry.source.tokens.now filter
+        (marks.is_beyond filter) place)) }
 {
     match refused.refusal() {
         Refusal::UnknownName { name } => {
             let site = place_of_site(known, refused);
             Ok(spelled_or_first(known.source, site, name.as_bytes()))
         }
-        Refusal::RateUnknown { node }
-        | Refusal::RateMismatch { node, .. }
-        | Refusal::PeekOutside { node }
-        | Refusal::RateLimit { node } => {
-            let inside = place_in_filter(known, *node, refused.refusal())?;
-            Ok(inside.or(place_of_node(known, *node)))
+        Refusal::RateUnknown { node } | Refusal::PeekOutside { node } => {
+            place_in_filter(known, *node, refused.refusal())
+        }
+        Refusal::RateMismatch { node, .. } | Refusal::RateLimit { node } => {
+            place_of_rates(known, *node, refused.refusal())
         }
         Refusal::Inconsistent { channel } | Refusal::BufferLimit { channel } => {
             Ok(place_of_channel(known, *channel))
@@ -54,7 +76,7 @@ pub fn place_of_refusal(known: Known<'_>, refused: &Refused) -> Result<Option<Sp
         Refusal::CountsTooLarge => place_of_large(known),
         Refusal::Nesting => deepest_token(known.alloc, known.source.tokens),
         Refusal::StartupUnbounded | Refusal::Deadlock { .. } => {
-            Ok(first_keyword(known.source.tokens, Keyword::Feedbackloop))
+            Ok(first_spelled(known.source, Keyword::Feedbackloop.text()))
         }
         Refusal::NoMain => Ok(place_without_main(known)),
         Refusal::ConstFault { cause } => place_of_fault(known, refused, *cause),
@@ -64,33 +86,58 @@ pub fn place_of_refusal(known: Known<'_>, refused: &Refused) -> Result<Option<Sp
 }
 
 /// The filter of a node.
-pub fn code_of<'a>(known: Known<'a>, node: usize) -> Option<&'a Code> {
+pub fn code_of<'a>(known: Known<'a>, node: usize) -> Option<&'a Code>
+    ensures { option_map (λ c. filter_of c.now) result
+        ≡ marks.filter_at (option_map (λ g. g.now) known.entry.graph) node }
+{
     match known.graph?.nodes().get(node)? {
         Node::Filter(instance) => Some(&instance.code),
         _ => None,
     }
 }
 
-/// The rate or the statement of a node's filter that a refusal is about.
+/// The rate of a node's filter that a refusal is about; the filter, where there is none.
+fn place_of_rates(
+    known: Known<'_>,
+    node: usize,
+    refusal: &Refusal,
+) -> Result<Option<Span>, NoMemory>
+    ensures mismatch { (node' declared counted : ℕ)
+        → refusal.now ≡ refused_for.RateMismatch node' declared counted → IfOk result (λ place.
+        IfSome (marks.filter_at (option_map (λ g. g.now) known.entry.graph) node) (λ filter.
+        marks.MarksRate known.entry.source.text.now known.entry.source.tokens.now filter
+        (marks.is_wrong filter) place)) }
+    ensures limit { (node' : ℕ) → refusal.now ≡ refused_for.RateLimit node'
+        → IfOk result (λ place.
+        IfSome (marks.filter_at (option_map (λ g. g.now) known.entry.graph) node) (λ filter.
+        marks.MarksRate known.entry.source.text.now known.entry.source.tokens.now filter
+        (marks.is_beyond filter) place)) }
+{
+    let filter = place_of_node(known, node);
+    let Some(code) = code_of(known, node) else {
+        return Ok(filter);
+    };
+    match moved_of(known.alloc, code, refusal)? {
+        Some(moved) => Ok(place_of_rate(known.source, code, moved, filter)),
+        None => Ok(filter),
+    }
+}
+
+/// The statement of a node's filter that a refusal is about; the filter, where it isn't known.
 fn place_in_filter(
     known: Known<'_>,
     node: usize,
     refusal: &Refusal,
 ) -> Result<Option<Span>, NoMemory> {
+    let filter = place_of_node(known, node);
     let Some(code) = code_of(known, node) else {
-        return Ok(None);
+        return Ok(filter);
     };
     let statement = match refusal {
         Refusal::RateUnknown { .. } => uncounted_statement(known.alloc, code)?,
-        Refusal::PeekOutside { .. } => peek_outside(known.alloc, code)?,
-        _ => {
-            return match moved_of(known.alloc, code, refusal)? {
-                Some(moved) => Ok(place_of_rate(known.source.tokens, code, moved)),
-                None => Ok(None),
-            };
-        }
+        _ => peek_outside(known.alloc, code)?,
     };
-    Ok(heading_of(known, statement))
+    Ok(heading_of(known, statement).or(filter))
 }
 
 /// What is marked of a statement, where there is one.
@@ -166,7 +213,7 @@ fn place_of_site(known: Known<'_>, refused: &Refused) -> Option<Span> {
     let site = refused.site();
     if let Some(place) = site.place {
         return match site.mismatch {
-            Some(Mismatch::Missing(kind, _)) => Some(kind_in(known, place, kind)),
+            Some(Mismatch::Missing(kind, _)) => kind_in(known, place, kind),
             _ => Some(known.source.heading(place)),
         };
     }
@@ -182,15 +229,20 @@ fn place_of_site(known: Known<'_>, refused: &Refused) -> Option<Span> {
 }
 
 /// The kind of a composite stream that lacks a part, with the name by which it is declared.
-fn kind_in(known: Known<'_>, place: Span, kind: CompositeKind) -> Span {
+fn kind_in(known: Known<'_>, place: Span, kind: CompositeKind) -> Option<Span>
+    ensures { spelling.MarksFrom known.entry.source.text.now known.entry.source.tokens.now
+        (keyword_text (keywords.kind_keyword kind)) result }
+{
     let heading = known.source.heading(place);
-    match keyword_before(known.source.tokens, heading.end, kind_keyword(kind)) {
-        Some(keyword) => Span {
-            start: keyword.start,
-            end: keyword.end.max(heading.end),
+    let keyword = kind_keyword(kind);
+    let given = match keyword_before(known.source.tokens, heading.end, keyword) {
+        Some(found) => Span {
+            start: found.start,
+            end: found.end.max(heading.end),
         },
         None => heading,
-    }
+    };
+    beginning_or_first(known.source, Some(given), keyword.text())
 }
 
 /// How a kind of composite stream is written.

@@ -1,6 +1,6 @@
 // Places that are marked for what is written there: a name, a keyword, an operator.
 
-ghost use Rattle.std.specs.Prelude.{◌≡◌, ◌↔◌, IsTrue, IfSome, IfNone};
+ghost use Rattle.std.specs.Prelude.{◌≡◌, ◌↔◌, IsTrue, IfSome, IfNone, take};
 ghost use Rattle.strc_places.specs.Spelling as spec;
 
 use strc_base::place::Span;
@@ -40,6 +40,41 @@ pub fn spelled_or_first(source: Source<'_>, given: Option<Span>, bytes: &[u8]) -
 {
     if let Some(place) = given {
         if spells(source, place, bytes) {
+            return given;
+        }
+    }
+    match first_spelled(source, bytes) {
+        Some(place) => Some(place),
+        None => given,
+    }
+}
+
+/// Whether a place begins with these bytes.
+pub fn begins(source: Source<'_>, place: Span, bytes: &[u8]) -> bool
+    ensures { IsTrue result ↔ spec.Begins source.entry.text.now place bytes.now }
+{
+    place.end <= source.text.len() && first_bytes(source.bytes(place), bytes.len()) == bytes
+}
+
+/// The first bytes, so many of them as there are up to this number.
+fn first_bytes(bytes: &[u8], most: usize) -> &[u8]
+    ensures { result.now ≡ take most bytes.now }
+{
+    &bytes[..most.min(bytes.len())]
+}
+
+/// The place that is given, where it begins so; else the first token that is spelled so, and what
+/// is given where no token is.
+#[tactic(auto, using(crate::proofs::Beginnings::spelled_begins))]
+pub fn beginning_or_first(source: Source<'_>, given: Option<Span>, bytes: &[u8]) -> Option<Span>
+    ensures marks { spec.MarksFrom source.entry.text.now source.entry.tokens.now bytes.now result }
+    ensures kept { IfSome given (λ place.
+        spec.Begins source.entry.text.now place bytes.now → result ≡ given) }
+    ensures unwritten { spec.IsUnwritten source.entry.text.now source.entry.tokens.now bytes.now
+        → result ≡ given }
+{
+    if let Some(place) = given {
+        if begins(source, place, bytes) {
             return given;
         }
     }

@@ -1,0 +1,89 @@
+-- Which rates of a filter break a rule, and what is marked for one that does.
+use Rattle.std.specs.Prelude.{◌≡◌, ◌⊎◌, ℕ, ℤ, pos, Bool, true, false, not, ◌&&◌, ◌||◌, List, []}
+use Rattle.std.specs.Prelude.{Option, Some, None, slice_get}
+use Rattle.std.specs.Ordering.{int_eq}
+use Rattle.strc_base.specs.declared.place.Span.{Span}
+use Rattle.strc_lex.specs.declared.token.Token.{Token}
+use Rattle.strc_lex.specs.KeywordTexts.{keyword_text}
+use Rattle.strc_syntax.specs.Tree as tree
+use Rattle.strc_syntax.specs.declared.tree.ItemType.{ItemType}
+use Rattle.strc_syntax.specs.declared.tree.ItemType.TheVariants as item
+use Rattle.strc_syntax.specs.declared.tree.RateKind.{RateKind}
+use Rattle.strc_syntax.specs.declared.tree.RateKind.TheVariants as rate
+use Rattle.strc_semantics.specs.declared.body.Body.{Body}
+use Rattle.strc_semantics.specs.declared.body.Body.TheVariants as body
+use Rattle.strc_semantics.specs.Filters.{Filter, filter_of, body_rates, body_block}
+use Rattle.strc_semantics.specs.Filters.{push_rate, pop_rate, peek_rate}
+use Rattle.strc_rate.specs.declared.counts.Counts.{Counts}
+use Rattle.strc_rate.specs.Counts.{stmts_counts}
+use Rattle.strc_rate.specs.Rates.{within_limit, has_items}
+use Rattle.strc_graph.specs.declared.graph.Node.{Node}
+use Rattle.strc_graph.specs.declared.graph.Node.TheVariants as node
+use Rattle.strc_graph.specs.NodeView.{GraphParts}
+use Rattle.strc_places.specs.declared.moved.Moved.{Moved}
+use Rattle.strc_places.specs.Keywords.{declared_keyword}
+use Rattle.strc_places.specs.Spelling.{MarksFrom}
+
+-- the declared rate of a kind: a missing one is 0, and a missing peek rate is the pop rate
+abbrev pub declared_rate : RateKind → Body → Filter → ℤ
+declared_rate rate.Push body filter = push_rate (body_rates body filter.members)
+declared_rate rate.Pop body filter = pop_rate (body_rates body filter.members)
+declared_rate rate.Peek body filter = peek_rate (body_rates body filter.members)
+
+-- the items of the side that a rate moves; a peek moves none
+abbrev pub side_items : RateKind → Filter → ItemType
+side_items rate.Push filter = filter.output
+side_items rate.Pop filter = filter.input
+side_items rate.Peek filter = item.Void
+
+abbrev pub is_work : Body → Bool
+is_work body.Prework = false
+is_work body.Work = true
+
+-- a rate isn't allowed: it is below 0 or too great, or 0 in `work` on a side with items
+abbrev pub is_refused : ℤ → ItemType → Body → Bool
+is_refused declared items body = not (within_limit declared)
+    || (int_eq declared (pos 0) && (is_work body && has_items items))
+
+abbrev pub is_beyond : Filter → RateKind → Body → Bool
+is_beyond filter side body =
+    is_refused (declared_rate side body filter) (side_items side filter) body
+
+-- a declared rate isn't the counted one
+abbrev pub is_uncounted : ℤ → RateKind → Option Counts → Bool
+is_uncounted declared rate.Push (Some counts) = not (int_eq declared (pos counts.pushes))
+is_uncounted declared rate.Pop (Some counts) = not (int_eq declared (pos counts.pops))
+is_uncounted declared _ _ = false
+
+abbrev pub is_wrong : Filter → RateKind → Body → Bool
+is_wrong filter side body = is_uncounted (declared_rate side body filter) side
+    (stmts_counts [] (body_block body filter.members))
+
+-- a rate that breaks a rule, or none where no rate does
+abbrev pub Finds : (RateKind → Body → Bool) → Option Moved → Type 0
+Finds breaks None = (side : RateKind) (body : Body) → breaks side body ≡ false
+Finds breaks (Some moved) = breaks moved.side moved.body ≡ true
+
+-- the same in one body
+abbrev pub FindsIn : (RateKind → Body → Bool) → Body → Option Moved → Type 0
+FindsIn breaks body None = (side : RateKind) → breaks side body ≡ false
+FindsIn breaks body (Some moved) = breaks moved.side moved.body ≡ true
+
+-- what is marked begins as a rate that breaks a rule is written, or as its body is; unless no rate
+-- breaks it
+pub data MarksRate (text : List ℕ) (tokens : List Token) (filter : Filter)
+    (breaks : RateKind → Body → Bool) (place : Option Span) : Type 0 where
+  Marked : (side : RateKind) (body : Body) (broken : breaks side body ≡ true)
+      (marks : MarksFrom text tokens (keyword_text (declared_keyword side body filter.members))
+      place) → MarksRate text tokens filter breaks place
+  Unbroken : (kept : (side : RateKind) (body : Body) → breaks side body ≡ false)
+      → MarksRate text tokens filter breaks place
+
+-- the filter of a node, where it is one
+abbrev pub node_filter : Option Node → Option Filter
+node_filter (Some (node.Filter instance)) = Some (filter_of instance.code)
+node_filter _ = None
+
+abbrev pub filter_at : Option GraphParts → ℕ → Option Filter
+filter_at None number = None
+filter_at (Some graph) number = node_filter (slice_get graph.nodes number)
