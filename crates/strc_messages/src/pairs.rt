@@ -43,12 +43,12 @@ fn two_mains(known: Known<'_>) -> Result<Option<Vec<u8>>, NoMemory>
     let (Some(first), Some(second)) = (mains.next(), mains.next()) else {
         return Ok(None);
     };
-    let place = second.name.place();
+    let place = known.place_of_name(second);
     let mut message = Message::new(known.alloc);
     message.quoted(second.name.as_bytes())?;
     message.add(b" could be the main stream, and so could ")?;
     message.quoted(first.name.as_bytes())?;
-    push_place(&mut message, source, first.name.place())?;
+    push_place(&mut message, source, known.place_of_name(first))?;
     source.excerpt(&mut message, place)?;
     message.hint()?;
     message.add(b"name the one that is to run with --main NAME")?;

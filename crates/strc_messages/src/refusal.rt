@@ -81,7 +81,7 @@ fn write_message(known: Known<'_>, refused: &Refused) -> Result<Vec<u8>, NoMemor
     if let Some(message) = pair_message(known, refused)? {
         return Ok(message);
     }
-    let place = place_of_refusal(known, refused)?;
+    let place = place_of_refusal(known, refused.refusal(), refused.site())?;
     let mut message = Message::new(known.alloc);
     push_sentence(&mut message, known, refused, place)?;
     known.source.excerpt(&mut message, place)?;

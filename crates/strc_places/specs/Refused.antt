@@ -1,11 +1,10 @@
 -- Which rates of a filter break a rule, and what is marked for one that does.
-use Rattle.std.specs.Prelude.{◌≡◌, ◌⊎◌, ℕ, ℤ, pos, Bool, true, false, not, ◌&&◌, ◌||◌, List, []}
-use Rattle.std.specs.Prelude.{Option, Some, None, slice_get}
+use Rattle.std.specs.Prelude.{◌≡◌, ℕ, ℤ, pos, Bool, true, false, not, ◌&&◌, ◌||◌, List, []}
+use Rattle.std.specs.Prelude.{Option, Some, None, IfSome, slice_get}
 use Rattle.std.specs.Ordering.{int_eq}
 use Rattle.strc_base.specs.declared.place.Span.{Span}
 use Rattle.strc_lex.specs.declared.token.Token.{Token}
 use Rattle.strc_lex.specs.KeywordTexts.{keyword_text}
-use Rattle.strc_syntax.specs.Tree as tree
 use Rattle.strc_syntax.specs.declared.tree.ItemType.{ItemType}
 use Rattle.strc_syntax.specs.declared.tree.ItemType.TheVariants as item
 use Rattle.strc_syntax.specs.declared.tree.RateKind.{RateKind}
@@ -50,13 +49,13 @@ is_beyond filter side body =
     is_refused (declared_rate side body filter) (side_items side filter) body
 
 -- a declared rate isn't the counted one
-abbrev pub is_uncounted : ℤ → RateKind → Option Counts → Bool
-is_uncounted declared rate.Push (Some counts) = not (int_eq declared (pos counts.pushes))
-is_uncounted declared rate.Pop (Some counts) = not (int_eq declared (pos counts.pops))
-is_uncounted declared _ _ = false
+abbrev pub is_miscounted : ℤ → RateKind → Option Counts → Bool
+is_miscounted declared rate.Push (Some counts) = not (int_eq declared (pos counts.pushes))
+is_miscounted declared rate.Pop (Some counts) = not (int_eq declared (pos counts.pops))
+is_miscounted declared _ _ = false
 
 abbrev pub is_wrong : Filter → RateKind → Body → Bool
-is_wrong filter side body = is_uncounted (declared_rate side body filter) side
+is_wrong filter side body = is_miscounted (declared_rate side body filter) side
     (stmts_counts [] (body_block body filter.members))
 
 -- a rate that breaks a rule, or none where no rate does
@@ -87,3 +86,9 @@ node_filter _ = None
 abbrev pub filter_at : Option GraphParts → ℕ → Option Filter
 filter_at None number = None
 filter_at (Some graph) number = node_filter (slice_get graph.nodes number)
+
+-- the same of the filter of a node
+abbrev pub MarksNode : List ℕ → List Token → Option GraphParts → ℕ
+    → (Filter → RateKind → Body → Bool) → Option Span → Type 0
+MarksNode text tokens graph number breaks place = IfSome (filter_at graph number)
+    (λ filter. MarksRate text tokens filter (breaks filter) place)

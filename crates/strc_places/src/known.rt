@@ -21,11 +21,16 @@ pub struct Known<'a> {
 }
 
 impl<'a> Known<'a> {
-    ghost use Rattle.std.specs.Prelude.{◌≡◌, IfSome};
+    ghost use Rattle.std.specs.Prelude.{◌≡◌, IfSome, IfNone};
+    ghost use Rattle.std.specs.Option.{option_map};
+    ghost use Rattle.strc_places.specs.Parts as parts;
     ghost use Rattle.strc_places.specs.Spelling as spelling;
 
     /// The declarations of the program; none where it has no tree.
-    pub fn declarations(self) -> &'a [Decl] {
+    pub fn declarations(self) -> &'a [Decl]
+        ensures { result.now ≡ parts.declarations_of
+            (option_map (λ p. p.now) self.entry.program) }
+    {
         match self.program {
             Some(program) => &program.declarations,
             None => &[],
@@ -48,7 +53,9 @@ impl<'a> Known<'a> {
 
     /// The declaration of a name.
     pub fn declaration_named(self, name: &[u8]) -> Option<&'a Decl>
-        ensures { IfSome result (λ found. found.now.name ≡ name.now) }
+        ensures found { IfSome result (λ found. found.now.name ≡ name.now) }
+        ensures undeclared { IfNone result (parts.IsUndeclared
+            (option_map (λ p. p.now) self.entry.program) name.now) }
     {
         self.declarations()
             .iter()

@@ -199,9 +199,8 @@ fn written_body(code: &Code, body: Body) -> Body
 /// The first such keyword from the start of a filter on.
 fn keyword_after(tokens: &[Token], filter: Option<Span>, keyword: Keyword) -> Option<Span> {
     let start = filter?.start;
-    let found = tokens
-        .iter()
-        .find(|token| token.span.start >= start && is_keyword(token, keyword))?;
+    let found = tokens.iter().find(|token| token.span.start >= start
+        && is_keyword(token, keyword))?;
     Some(found.span)
 }
 

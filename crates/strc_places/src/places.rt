@@ -1,12 +1,17 @@
 // Which part of a text a refusal is about.
 
-ghost use Rattle.std.specs.Prelude.{◌≡◌, Bool, IfOk, IfSome, List, ℕ};
+ghost use Rattle.std.specs.Prelude.{◌≡◌, ◌⊎◌, Bool, IfOk, IfSome, List, Some, ℕ};
 ghost use Rattle.std.specs.Option.{option_map};
 ghost use Rattle.strc_lex.specs.KeywordTexts.{keyword_text};
 ghost use Rattle.strc_lex.specs.declared.token.Keyword.TheVariants as keyword;
+ghost use Rattle.strc_base.specs.declared.place.Span.{Span};
+ghost use Rattle.strc_syntax.specs.declared.tree.CompositeKind.{CompositeKind};
 ghost use Rattle.strc_semantics.specs.Filters.{filter_of};
+ghost use Rattle.strc_check.specs.declared.site.Part.{Part};
+ghost use Rattle.strc_check.specs.declared.site.Mismatch.TheVariants as mismatched;
 ghost use Rattle.strc_places.specs.Keywords as keywords;
-ghost use Rattle.strc_places.specs.Refused as marks;
+ghost use Rattle.strc_places.specs.Parts as parts;
+ghost use Rattle.strc_places.specs.Refused as refused;
 ghost use Rattle.strc_places.specs.Spelling as spelling;
 ghost use Rattle.strc_refusal.specs.declared.refusal.Refusal.TheVariants as refused_for;
 
@@ -20,12 +25,11 @@ use crate::spelling::{beginning_or_first, first_spelled, spelled_or_first};
 use crate::starts::faulting_start;
 use strc_base::memory::NoMemory;
 use strc_base::place::Span;
-use strc_check::site::{Mismatch, Part};
+use strc_check::site::{Mismatch, Part, Site};
 use strc_code::code::Code;
 use strc_graph::graph::Node;
 use strc_lex::token::Keyword;
 use strc_refusal::refusal::Refusal;
-use strc_refusal::refused::Refused;
 use strc_semantics::fault::Cause;
 use strc_source::counts::{large_channel, rates_of};
 use strc_source::tokens::{count_of, keyword_before};
@@ -34,41 +38,56 @@ use strc_syntax::tree::CompositeKind;
 /// In a text of more tokens no unused declaration is looked for.
 const MOST_TOKENS: usize = 10_000;
 
-/// The part of the text that a refusal is about, where there is one.
-pub fn place_of_refusal(known: Known<'_>, refused: &Refused) -> Result<Option<Span>, NoMemory>
+/// The part of the text that a refusal at this site is about, where there is one.
+pub fn place_of_refusal(
+    known: Known<'_>,
+    refusal: &Refusal,
+    site: Site,
+) -> Result<Option<Span>, NoMemory>
     // Of a name that isn't declared a place is marked where it is written.
-    ensures undeclared { (name : List ℕ) → refused.now ≡ refused_for.UnknownName name
+    ensures undeclared { (name : List ℕ) → refusal.now ≡ refused_for.UnknownName name
         → IfOk result (λ place. spelling.Marks known.entry.source.text.now
         known.entry.source.tokens.now name place) }
     // Of nodes that wait for one another, or fire without end before the first round, a feedback
     // loop is marked.
-    ensures unbounded { refused.now ≡ refused_for.StartupUnbounded
+    ensures unbounded { refusal.now ≡ refused_for.StartupUnbounded
         → IfOk result (λ place. spelling.Marks known.entry.source.text.now
         known.entry.source.tokens.now (keyword_text keyword.Feedbackloop) place) }
-    ensures deadlock { (in_startup : Bool) → refused.now ≡ refused_for.Deadlock in_startup
+    ensures deadlock { (in_startup : Bool) → refusal.now ≡ refused_for.Deadlock in_startup
         → IfOk result (λ place. spelling.Marks known.entry.source.text.now
         known.entry.source.tokens.now (keyword_text keyword.Feedbackloop) place) }
     // Of a rate that breaks a rule a place is marked that begins as it is written.
     ensures mismatch { (node declared counted : ℕ)
-        → refused.now ≡ refused_for.RateMismatch node declared counted → IfOk result (λ place.
-        IfSome (marks.filter_at (option_map (λ g. g.now) known.entry.graph) node) (λ filter.
-        marks.MarksRate known.entry.source.text.now known.entry.source.tokens.now filter
-        (marks.is_wrong filter) place)) }
-    ensures limit { (node : ℕ) → refused.now ≡ refused_for.RateLimit node → IfOk result (λ place.
-        IfSome (marks.filter_at (option_map (λ g. g.now) known.entry.graph) node) (λ filter.
-        marks.MarksRate known.entry.source.text.now known.entry.source.tokens.now filter
-        (marks.is_beyond filter) place)) }
+        → refusal.now ≡ refused_for.RateMismatch node declared counted
+        → IfOk result (refused.MarksNode known.entry.source.text.now
+        known.entry.source.tokens.now (option_map (λ g. g.now) known.entry.graph) node
+        refused.is_wrong) }
+    ensures limit { (node : ℕ) → refusal.now ≡ refused_for.RateLimit node
+        → IfOk result (refused.MarksNode known.entry.source.text.now
+        known.entry.source.tokens.now (option_map (λ g. g.now) known.entry.graph) node
+        refused.is_beyond) }
+    // Of a stream that lacks a part a place is marked that begins as its kind is written.
+    ensures missing { (stream : ℕ) (kind : CompositeKind) (part : Part) (at : Span)
+        → refusal.now ≡ refused_for.TypeMismatch stream
+        → site.mismatch ≡ Some (mismatched.Missing kind part) → site.place ≡ Some at
+        → IfOk result (λ place. spelling.MarksFrom known.entry.source.text.now
+        known.entry.source.tokens.now (keyword_text (keywords.kind_keyword kind)) place) }
+    // Of a main stream that is asked for and declared a place is marked where its name is written.
+    ensures asked { refusal.now ≡ refused_for.NoMain → IfSome known.entry.source.main (λ name.
+        IfOk result (λ place. spelling.Marks known.entry.source.text.now
+        known.entry.source.tokens.now name.now place
+        ⊎ parts.IsUndeclared (option_map (λ p. p.now) known.entry.program) name.now)) }
 {
-    match refused.refusal() {
+    match refusal {
         Refusal::UnknownName { name } => {
-            let site = place_of_site(known, refused);
-            Ok(spelled_or_first(known.source, site, name.as_bytes()))
+            let place = place_of_site(known, refusal, site);
+            Ok(spelled_or_first(known.source, place, name.as_bytes()))
         }
         Refusal::RateUnknown { node } | Refusal::PeekOutside { node } => {
-            place_in_filter(known, *node, refused.refusal())
+            place_in_filter(known, *node, refusal)
         }
         Refusal::RateMismatch { node, .. } | Refusal::RateLimit { node } => {
-            place_of_rates(known, *node, refused.refusal())
+            place_of_rates(known, *node, refusal)
         }
         Refusal::Inconsistent { channel } | Refusal::BufferLimit { channel } => {
             Ok(place_of_channel(known, *channel))
@@ -79,16 +98,16 @@ pub fn place_of_refusal(known: Known<'_>, refused: &Refused) -> Result<Option<Sp
             Ok(first_spelled(known.source, Keyword::Feedbackloop.text()))
         }
         Refusal::NoMain => Ok(place_without_main(known)),
-        Refusal::ConstFault { cause } => place_of_fault(known, refused, *cause),
-        Refusal::NodeLimit | Refusal::DepthLimit => place_of_limit(known, refused),
-        _ => Ok(place_of_site(known, refused)),
+        Refusal::ConstFault { cause } => place_of_fault(known, refusal, site, *cause),
+        Refusal::NodeLimit | Refusal::DepthLimit => place_of_limit(known, refusal, site),
+        _ => Ok(place_of_site(known, refusal, site)),
     }
 }
 
 /// The filter of a node.
 pub fn code_of<'a>(known: Known<'a>, node: usize) -> Option<&'a Code>
     ensures { option_map (λ c. filter_of c.now) result
-        ≡ marks.filter_at (option_map (λ g. g.now) known.entry.graph) node }
+        ≡ refused.filter_at (option_map (λ g. g.now) known.entry.graph) node }
 {
     match known.graph?.nodes().get(node)? {
         Node::Filter(instance) => Some(&instance.code),
@@ -102,16 +121,15 @@ fn place_of_rates(
     node: usize,
     refusal: &Refusal,
 ) -> Result<Option<Span>, NoMemory>
-    ensures mismatch { (node' declared counted : ℕ)
-        → refusal.now ≡ refused_for.RateMismatch node' declared counted → IfOk result (λ place.
-        IfSome (marks.filter_at (option_map (λ g. g.now) known.entry.graph) node) (λ filter.
-        marks.MarksRate known.entry.source.text.now known.entry.source.tokens.now filter
-        (marks.is_wrong filter) place)) }
-    ensures limit { (node' : ℕ) → refusal.now ≡ refused_for.RateLimit node'
-        → IfOk result (λ place.
-        IfSome (marks.filter_at (option_map (λ g. g.now) known.entry.graph) node) (λ filter.
-        marks.MarksRate known.entry.source.text.now known.entry.source.tokens.now filter
-        (marks.is_beyond filter) place)) }
+    ensures mismatch { (number declared counted : ℕ)
+        → refusal.now ≡ refused_for.RateMismatch number declared counted
+        → IfOk result (refused.MarksNode known.entry.source.text.now
+        known.entry.source.tokens.now (option_map (λ g. g.now) known.entry.graph) node
+        refused.is_wrong) }
+    ensures limit { (number : ℕ) → refusal.now ≡ refused_for.RateLimit number
+        → IfOk result (refused.MarksNode known.entry.source.text.now
+        known.entry.source.tokens.now (option_map (λ g. g.now) known.entry.graph) node
+        refused.is_beyond) }
 {
     let filter = place_of_node(known, node);
     let Some(code) = code_of(known, node) else {
@@ -169,7 +187,11 @@ fn place_of_large(known: Known<'_>) -> Result<Option<Span>, NoMemory> {
 }
 
 /// The stream that is asked for, or else the last declared one whose name is nowhere else.
-fn place_without_main(known: Known<'_>) -> Option<Span> {
+fn place_without_main(known: Known<'_>) -> Option<Span>
+    ensures { IfSome known.entry.source.main (λ name.
+        spelling.Marks known.entry.source.text.now known.entry.source.tokens.now name.now result
+        ⊎ parts.IsUndeclared (option_map (λ p. p.now) known.entry.program) name.now) }
+{
     if let Some(main) = known.source.main {
         return known.place_of_name(known.declaration_named(main.as_bytes())?);
     }
@@ -186,38 +208,47 @@ fn place_without_main(known: Known<'_>) -> Option<Span> {
 /// Where the text faults before it runs.
 fn place_of_fault(
     known: Known<'_>,
-    refused: &Refused,
+    refusal: &Refusal,
+    site: Site,
     cause: Cause,
 ) -> Result<Option<Span>, NoMemory> {
-    if let Some(place) = refused.site().place {
+    if let Some(place) = site.place {
         if let Some(start) = faulting_start(known, place, cause)? {
             return Ok(Some(start));
         }
     }
-    Ok(place_of_site(known, refused))
+    Ok(place_of_site(known, refusal, site))
 }
 
 /// Where there are too many filters or too many levels: of a stream that adds itself the statement
 /// that does so.
-fn place_of_limit(known: Known<'_>, refused: &Refused) -> Result<Option<Span>, NoMemory> {
-    if let Some(place) = refused.site().place {
+fn place_of_limit(
+    known: Known<'_>,
+    refusal: &Refusal,
+    site: Site,
+) -> Result<Option<Span>, NoMemory> {
+    if let Some(place) = site.place {
         if let Some(again) = recursive_statement(known, place)? {
             return Ok(Some(known.source.heading(again)));
         }
     }
-    Ok(place_of_site(known, refused))
+    Ok(place_of_site(known, refusal, site))
 }
 
 /// The site of a refusal; where it has no place, the declaration or the main stream.
-fn place_of_site(known: Known<'_>, refused: &Refused) -> Option<Span> {
-    let site = refused.site();
+fn place_of_site(known: Known<'_>, refusal: &Refusal, site: Site) -> Option<Span>
+    ensures { (kind : CompositeKind) (part : Part) (at : Span)
+        → site.mismatch ≡ Some (mismatched.Missing kind part) → site.place ≡ Some at
+        → spelling.MarksFrom known.entry.source.text.now known.entry.source.tokens.now
+        (keyword_text (keywords.kind_keyword kind)) result }
+{
     if let Some(place) = site.place {
         return match site.mismatch {
             Some(Mismatch::Missing(kind, _)) => kind_in(known, place, kind),
             _ => Some(known.source.heading(place)),
         };
     }
-    match refused.refusal() {
+    match refusal {
         Refusal::TypeMismatch { stream }
         | Refusal::BadArguments { stream }
         | Refusal::BadWeights { stream } => known.declaration_numbered(*stream),
