@@ -95,6 +95,7 @@ impl<'a> Calls<'a> {
     }
 
     /// The code of the helper function of a name, where it has so many parameters.
+    #[inline(always)]
     pub fn helper(&self, name: &Name, count: usize) -> Option<&'a HelperCode>
         ensures some { IfSome result (λ code. IsFound self.now name.now count code.now) }
         ensures none { result ≡ None → IsRefused self.now name.now count }
@@ -124,6 +125,7 @@ impl<'a> Calls<'a> {
 }
 
 /// The first code of a name.
+#[inline(always)]
 fn named<'a>(helpers: &'a [HelperCode], name: &Name) -> Option<&'a HelperCode>
     ensures some { IfSome result (λ code. code_named helpers.now name.now ≡ Some code.now) }
     ensures none { result ≡ None → code_named helpers.now name.now ≡ None }
@@ -138,30 +140,22 @@ fn named<'a>(helpers: &'a [HelperCode], name: &Name) -> Option<&'a HelperCode>
 
 /// Saves the slots that are no field's, as many as there is room for, and puts the answer and the
 /// arguments, so many slots from `first` on, after the fields'.
-pub fn begin(
-    slots: &mut [i32],
-    kept: &mut [i32],
-    spare: &mut [i32],
-    fields: usize,
-    first: usize,
-    count: usize,
-)
+#[inline]
+pub fn begin(slots: &mut [i32], kept: &mut [i32], fields: usize, first: usize, count: usize)
     requires kept { fields + length kept.old ≤ length slots.old }
     requires own { fields + (2 + count) ≤ length slots.old }
     requires arguments { first + count ≤ length slots.old }
-    requires spare { count ≤ length spare.old }
     ensures kept { kept.new ≡ take (length kept.old) (drop fields slots.old) }
     ensures slots { slots.new ≡ begun_slots fields (take count (drop first slots.old)) slots.old }
 {
     kept.copy_from_slice(&slots[fields..fields + kept.len()]);
-    let (values, _others) = spare.split_at_mut(count);
-    values.copy_from_slice(&slots[first..first + count]);
+    slots.copy_within(first..first + count, fields + 2);
     slots[fields] = 0;
     slots[fields + 1] = 0;
-    slots[fields + 2..fields + 2 + count].copy_from_slice(values);
 }
 
 /// Puts the slots back that were saved, and the call's value into a slot.
+#[inline]
 pub fn end(slots: &mut [i32], kept: &[i32], fields: usize, into: usize)
     requires kept { fields + length kept.now ≤ length slots.old }
     requires answer { fields + 1 < length slots.old }

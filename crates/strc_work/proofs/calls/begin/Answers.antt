@@ -11,14 +11,12 @@ returns-clause-slots c =
     let slots = c.args.slots.now in
     let values = take count (drop c.args.first slots) in
     let k : c.args.first + count - c.args.first ≡ count = omega arith in
-    let is : c.copy_from_slice-3.new.self ≡ values =
-    c.copy_from_slice-3.ensures.after ∙ c.copy_from_slice-2.ensures.after
-    ∙ ap (λ n. take n (drop c.args.first slots)) k in
     let size : length values ≡ count =
     length-take-le count (drop c.args.first slots)
     (omega (arith, length-drop c.args.first slots, c.requires.arguments)) in
-    ap (λ (v : List ℤ). take (fields + 2) (set (set slots fields (pos 0)) (fields + 1) (pos 0))
-    ++ (v ++ drop (fields + 2 + count - (fields + 2)) (drop (fields + 2)
-    (set (set slots fields (pos 0)) (fields + 1) (pos 0))))) is
+    ap (λ (l : List ℤ). set (set l fields (pos 0)) (fields + 1) (pos 0)) c.copy_within.ensures.after
+    ∙ ap (λ n. set (set ((take (fields + 2) slots ++ take n (drop c.args.first slots))
+    ++ drop (fields + 2 + (c.args.first + count - c.args.first)) slots) fields (pos 0))
+    (fields + 1) (pos 0)) k
     ∙ begun_is fields count values slots (fields + 2) (fields + 1)
-    (fields + 2 + count - (fields + 2)) c.requires.own size refl refl (omega arith)
+    (c.args.first + count - c.args.first) c.requires.own size refl refl k
