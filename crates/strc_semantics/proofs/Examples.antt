@@ -49,6 +49,47 @@ pub no_turn_left : called (fac ∷ []) 64 (codes "fac") (pos 5 ∷ []) [] 100000
 unfolding turn_limit
 no_turn_left = refl
 
+-- 13! wraps round
+pub fac_of_thirteen : called (fac ∷ []) 64 (codes "fac") (pos 13 ∷ []) [] 0
+    ≡ Ok (record { value = pos 1932053504; fields = []; turns = 13 })
+unfolding turn_limit int_wrap
+fac_of_thirteen = refl
+
+-- 64! is a multiple of 2 to the 32nd, by as many calls as may run at once; 65! takes one more
+pub fac_of_sixty_four : called (fac ∷ []) 64 (codes "fac") (pos 64 ∷ []) [] 0
+    ≡ Ok (record { value = pos 0; fields = []; turns = 64 })
+unfolding turn_limit int_wrap
+fac_of_sixty_four = refl
+
+pub fac_of_sixty_five : called (fac ∷ []) 64 (codes "fac") (pos 65 ∷ []) [] 0 ≡ Err Calls
+unfolding turn_limit int_wrap
+fac_of_sixty_five = refl
+
+-- `int f(int n) { if (n == 0) return 0; f(n - 1); return f(n - 1); }`
+abbrev twice : tree.Member
+twice = let again = tree.Call (codes "f") (tree.Argument
+    (tree.Binary binary.Subtract (tree.Read (codes "n")) (tree.Number (pos 1)))
+    tree.NoArgument) in
+    tree.Helper gives.Int (codes "f") (codes "n" ∷ [])
+    (tree.Then (tree.If (tree.Binary binary.Equal (tree.Read (codes "n")) (tree.Number (pos 0)))
+    (tree.Return (Some (tree.Number (pos 0)))))
+    (tree.Then (tree.Evaluate again) (tree.Then (tree.Return (Some again)) tree.Done)))
+
+-- each call is a turn: three levels down there are 15, of which the last one may be the last turn
+pub fifteen_calls : called (twice ∷ []) 64 (codes "f") (pos 3 ∷ []) [] 0
+    ≡ Ok (record { value = pos 0; fields = []; turns = 15 })
+unfolding turn_limit int_wrap
+fifteen_calls = refl
+
+pub fifteen_last_turns : called (twice ∷ []) 64 (codes "f") (pos 3 ∷ []) [] 999985
+    ≡ Ok (record { value = pos 0; fields = []; turns = 1000000 })
+unfolding turn_limit int_wrap
+fifteen_last_turns = refl
+
+pub one_turn_less : called (twice ∷ []) 64 (codes "f") (pos 3 ∷ []) [] 999986 ≡ Err Turns
+unfolding turn_limit int_wrap
+one_turn_less = refl
+
 -- `int x;`
 abbrev x : tree.Member
 x = tree.Fields tree.Int (record { name = codes "x"; initial = None } ∷ [])
