@@ -6,3 +6,4 @@ pub mod Lines
 pub mod Totals
 pub mod ClosedBodies
 pub mod HelperRooms
+pub mod Linked

@@ -7,5 +7,6 @@ pub mod Conditions
 pub mod Code
 pub mod Flat
 pub mod Lowering
+pub mod Links
 pub mod Lowered
 pub mod Helpers

@@ -7,13 +7,15 @@ use strc_base::memory::NoMemory;
 use strc_base::name::Name;
 
 /// A call of a helper function: its name, the first slot of its arguments, how many there are, and
-/// the slot of its value.
+/// the slot of its value. In what is run it also knows where its helper function stands among those
+/// of the filter, so that no call looks for a name.
 #[derive(Drop)]
 pub struct Call {
     pub name: Name,
     pub first: u32,
     pub count: u32,
     pub into: u32,
+    pub place: Option<usize>,
 }
 
 impl Call {
@@ -24,15 +26,16 @@ impl Call {
         after(self.into).max(self.first as usize + self.count as usize)
     }
 
-    /// An equal call.
-    pub fn copy(&self) -> Result<Call, NoMemory>
-        ensures { IfOk result (λ copy. copy ≡ self.now) }
+    /// The same call of the helper function that stands at this place.
+    pub fn linked(&self, place: Option<usize>) -> Result<Call, NoMemory>
+        ensures { IfOk result (λ linked. linked ≡ record self.now { place = place }) }
     {
         Ok(Call {
             name: self.name.copy()?,
             first: self.first,
             count: self.count,
             into: self.into,
+            place,
         })
     }
 }

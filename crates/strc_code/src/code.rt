@@ -6,6 +6,7 @@ ghost use Rattle.strc_semantics.specs.Filters as filters;
 ghost use Rattle.strc_semantics.specs.Scoping.{total};
 ghost use Rattle.strc_code.specs.Code.{code_of};
 ghost use Rattle.strc_code.specs.Flat.{IsFlat};
+ghost use Rattle.strc_code.specs.Links.{helper_names, IsLinked, AreLinkedCodes};
 ghost use Rattle.strc_code.specs.Lowered.{limits_of, first_routine};
 ghost use Rattle.strc_semantics.specs.declared.body.Body.TheVariants as bodied;
 ghost use Rattle.strc_interval.specs.Stateless as writes;
@@ -48,8 +49,8 @@ impl Model for Code {
 }
 
 /// What lowering made of a filter: its tree, the routines of its start and its bodies, the code of
-/// its helper functions, how many slots its fields take, all that it runs needs and its callers'
-/// locals need, and whether it has no state.
+/// its helper functions, how many slots its fields take, all that it runs needs, a call needs and
+/// its callers' locals need, and whether it has no state.
 #[derive(Drop)]
 struct Lowered {
     tree: FilterTree,
@@ -59,6 +60,7 @@ struct Lowered {
     helpers: Vec<HelperCode>,
     fields: usize,
     slots: usize,
+    calls: usize,
     saved: usize,
     stateless: bool,
 }
@@ -77,7 +79,7 @@ impl Model for Lowered {
     ghost view = { λ c. c.tree };
 
     ghost invariant = { λ c. IsLowered c.tree c.start c.prework c.work c.helpers.items c.fields
-        c.slots c.saved c.stateless };
+        c.slots c.calls c.saved c.stateless };
 }
 
 /// A body's code, its flat form, which is what is run, and what it may pop, look at and push.
@@ -130,6 +132,12 @@ impl Code {
             ≡ limits_of (filters.body_rates bodied.Work (filters.filter_of tree).members) }
         requires helpers { AreHelpers (lowering.field_scope (filters.filter_of tree))
             (filters.filter_of tree).members helpers.items }
+        requires start_linked { IsLinked (helper_names (filters.filter_of tree).members) start.flat }
+        requires prework_linked { IsLinked (helper_names (filters.filter_of tree).members)
+            (first_routine prework work).flat }
+        requires work_linked { IsLinked (helper_names (filters.filter_of tree).members) work.flat }
+        requires helpers_linked { AreLinkedCodes (helper_names (filters.filter_of tree).members)
+            helpers.items }
         requires closed { IsClosedFilter (filters.filter_of tree) }
         ensures { IfOk result (λ code. code ≡ tree) }
     {
@@ -147,6 +155,7 @@ impl Code {
             helpers,
             fields,
             slots,
+            calls,
             saved,
             stateless,
         };
@@ -260,10 +269,22 @@ impl Code {
         self.lowered().saved
     }
 
+    /// How many slots a call of any of the helper functions needs.
+    #[inline(always)]
+    pub fn call_count(&self) -> usize
+        ensures { result ≡ lowering.helpers_room (lowering.field_scope (filters.filter_of self.now))
+            (filters.filter_of self.now).members }
+    {
+        self.lowered().calls
+    }
+
     /// The code of the helper functions, in order.
+    #[inline(always)]
     pub fn helpers(&self) -> &[HelperCode]
-        ensures { AreHelpers (lowering.field_scope (filters.filter_of self.now))
+        ensures are { AreHelpers (lowering.field_scope (filters.filter_of self.now))
             (filters.filter_of self.now).members result.now }
+        ensures linked { AreLinkedCodes (helper_names (filters.filter_of self.now).members)
+            result.now }
     {
         &self.lowered().helpers
     }
@@ -272,6 +293,8 @@ impl Code {
     pub fn start_routine(&self) -> &Routine
         ensures code { code_of result.now.code ≡ start_nodes (filters.filter_of self.now) }
         ensures flat { IsFlat result.now.flat (code_of result.now.code) }
+        ensures linked { IsLinked (helper_names (filters.filter_of self.now).members)
+            result.now.flat }
         ensures closed { IsClosedFilter (filters.filter_of self.now) }
     {
         &self.lowered().start
@@ -282,6 +305,8 @@ impl Code {
     pub fn routine(&self, body: Body) -> &Routine
         ensures code { code_of result.now.code ≡ body_nodes body (filters.filter_of self.now) }
         ensures flat { IsFlat result.now.flat (code_of result.now.code) }
+        ensures linked { IsLinked (helper_names (filters.filter_of self.now).members)
+            result.now.flat }
         ensures limits { result.now.limits
             ≡ limits_of (filters.body_rates body (filters.filter_of self.now).members) }
         ensures closed { IsClosedFilter (filters.filter_of self.now) }
