@@ -5,3 +5,4 @@ pub mod Built
 pub mod Flattening
 pub mod HalfBranches
 pub mod HelperScopes
+mod Linking

@@ -11,6 +11,7 @@ use Rattle.strc_code.specs.declared.code.Routine.{Routine}
 use Rattle.strc_code.specs.Nodes.{before}
 use Rattle.strc_code.specs.Code.{code_of}
 use Rattle.strc_code.specs.Flat.{IsFlat}
+use Rattle.strc_code.specs.Links.{helper_names, IsLinked, AreLinkedCodes}
 use Rattle.strc_code.specs.declared.helper.HelperCode.{HelperCode}
 use Rattle.strc_code.specs.Helpers.{AreHelpers}
 use Rattle.strc_code.specs.Lowering.{stmts_nodes, initials_nodes, inits_nodes}
@@ -48,6 +49,7 @@ pub work_first : (names : Scope) (members : List tree.Member)
 work_first names members none work w = record {
   code = w.code ∙ ap (stmts_nodes names false) (sym (no_prework_block members none));
   flat = w.flat;
+  linked = w.linked;
   limits = w.limits ∙ ap limits_of (sym (no_prework_rates members none));
 }
 
@@ -67,12 +69,15 @@ pub parts_of : (members : List tree.Member) (names one : Scope) (fields : ℕ) (
     → one ≡ names → fields ≡ total names
     → code_of start.code ≡ before (initials_nodes names members) (inits_nodes names members)
     → IsFlat start.flat (code_of start.code) → AreBodies one members prework work
+    → IsLinked (helper_names members) start.flat → AreLinkedCodes (helper_names members) helpers
     → AreParts members fields start prework work helpers
-parts_of members names one fields start prework work helpers is are same count code flat bodies =
-    record {
+parts_of members names one fields start prework work helpers is are same count code flat bodies
+    linked all_linked = record {
       count = count ∙ ap total is ∙ total-reverse (sized_fields members);
       initial = code ∙ ap (λ n. before (initials_nodes n members) (inits_nodes n members)) is;
       flat = flat;
+      linked = linked;
       bodies = subst (λ n. AreBodies n members prework work) (same ∙ is) bodies;
+      helpers_linked = all_linked;
       helpers_are = subst (λ n. AreHelpers n members helpers) is are;
     }

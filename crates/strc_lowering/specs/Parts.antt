@@ -9,6 +9,7 @@ use Rattle.strc_code.specs.declared.code.Routine.{Routine}
 use Rattle.strc_code.specs.Nodes.{before}
 use Rattle.strc_code.specs.Code.{code_of}
 use Rattle.strc_code.specs.Flat.{IsFlat}
+use Rattle.strc_code.specs.Links.{helper_names, IsLinked, AreLinkedCodes}
 use Rattle.strc_code.specs.Lowering.{stmts_nodes, initials_nodes, inits_nodes}
 use Rattle.strc_code.specs.Lowered.{limits_of, first_routine}
 use Rattle.strc_code.specs.declared.helper.HelperCode.{HelperCode}
@@ -19,6 +20,7 @@ pub record IsRoutine (names : Scope) (members : List tree.Member) (body : Body)
     (routine : Routine) : Type 0 where
   pub code : code_of routine.code ≡ stmts_nodes names false (body_block body members)
   pub flat : IsFlat routine.flat (code_of routine.code)
+  pub linked : IsLinked (helper_names members) routine.flat
   pub limits : routine.limits ≡ limits_of (body_rates body members)
 
 -- with any work of the members, the first firing has the routine of their prework
@@ -41,5 +43,7 @@ pub record AreParts (members : List tree.Member) (fields : ℕ) (start : Routine
       ≡ before (initials_nodes (reverse (sized_fields members)) members)
       (inits_nodes (reverse (sized_fields members)) members)
   pub flat : IsFlat start.flat (code_of start.code)
+  pub linked : IsLinked (helper_names members) start.flat
   pub bodies : AreBodies (reverse (sized_fields members)) members prework work
   pub helpers_are : AreHelpers (reverse (sized_fields members)) members helpers
+  pub helpers_linked : AreLinkedCodes (helper_names members) helpers

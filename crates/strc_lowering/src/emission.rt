@@ -9,6 +9,7 @@ ghost use Rattle.strc_semantics.specs.Scoping.{with_declared};
 ghost use Rattle.strc_code.specs.Nodes.{before};
 ghost use Rattle.strc_code.specs.Code.{code_of};
 ghost use Rattle.strc_code.specs.Flat.{IsFlat};
+ghost use Rattle.strc_code.specs.Links.{helper_names, IsLinked};
 ghost use Rattle.strc_code.specs.Lowering as spec;
 ghost use Rattle.strc_code.specs.Lowered as lowered;
 ghost use Rattle.strc_semantics.specs.Closed.{IsClosedFilter};
@@ -19,6 +20,7 @@ use crate::builder::Builder;
 use crate::expression_code::emit_expr;
 use crate::helper_code::emit_helpers;
 use crate::layout::Layout;
+use crate::links::Links;
 use crate::operands::cells_of;
 use crate::routine::routine_of;
 use crate::statement_code::emit_block;
@@ -62,9 +64,10 @@ fn emit_parts(alloc: Global, members: &[Member]) -> Result<Parts, NoMemory>
 {
     let mut names = field_layout(alloc, members)?;
     let fields = names.total() as usize;
-    let helpers = emit_helpers(alloc, &mut names, members)?;
-    let start = emit_start(alloc, &mut names, members)?;
-    let (prework, work) = emit_bodies(alloc, &mut names, members)?;
+    let links = Links::of_members(alloc, members)?;
+    let helpers = emit_helpers(alloc, &mut names, &links, members)?;
+    let start = emit_start(alloc, &mut names, &links, members)?;
+    let (prework, work) = emit_bodies(alloc, &mut names, &links, members)?;
     Ok(Parts {
         fields,
         start,
@@ -78,13 +81,15 @@ fn emit_parts(alloc: Global, members: &[Member]) -> Result<Parts, NoMemory>
 fn emit_bodies(
     alloc: Global,
     names: &mut Layout,
+    links: &Links,
     members: &[Member],
 ) -> Result<(Option<Routine>, Routine), NoMemory>
+    requires links { links.now ≡ helper_names (members_of members.now) }
     ensures { IfOk result (λ bodies. AreBodies names.old (members_of members.now) bodies.0
         bodies.1) }
 {
-    let work = emit_routine(alloc, names, Body::Work, members)?;
-    let prework = emit_prework(alloc, names, members)?;
+    let work = emit_routine(alloc, names, links, Body::Work, members)?;
+    let prework = emit_prework(alloc, names, links, members)?;
     Ok((prework, work))
 }
 
@@ -92,12 +97,15 @@ fn emit_bodies(
 fn emit_prework(
     alloc: Global,
     names: &mut Layout,
+    links: &Links,
     members: &[Member],
 ) -> Result<Option<Routine>, NoMemory>
+    requires links { links.now ≡ helper_names (members_of members.now) }
     ensures { IfOk result (λ prework. IsPrework names.old (members_of members.now) prework) }
 {
     if bodies::has_prework(members) {
-        return Ok(Some(emit_routine(alloc, names, Body::Prework, members)?));
+        let prework = emit_routine(alloc, names, links, Body::Prework, members)?;
+        return Ok(Some(prework));
     }
     Ok(None)
 }
@@ -128,11 +136,17 @@ fn declare_all(names: &mut Layout, cells: u32, variables: &[Variable]) -> Result
 
 /// The code of a filter's start: its fields' initialisers, and then `init`.
 #[tactic(auto, using(strc_code::proofs::Nodes::before_assoc))]
-fn emit_start(alloc: Global, names: &mut Layout, members: &[Member]) -> Result<Routine, NoMemory>
+fn emit_start(
+    alloc: Global,
+    names: &mut Layout,
+    links: &Links,
+    members: &[Member],
+) -> Result<Routine, NoMemory>
     ensures code { IfOk result (λ start. code_of start.code
         ≡ before (spec.initials_nodes names.old (members_of members.now))
         (spec.inits_nodes names.old (members_of members.now))) }
     ensures flat { IfOk result (λ start. IsFlat start.flat (code_of start.code)) }
+    ensures linked { IfOk result (λ start. IsLinked links.now start.flat) }
     ensures names { OnOk result (names.new ≡ names.old) }
 {
     let mut code = Builder::new(alloc);
@@ -143,7 +157,7 @@ fn emit_start(alloc: Global, names: &mut Layout, members: &[Member]) -> Result<R
         peek: 0,
         pushes: 0,
     };
-    routine_of(alloc, code.finish()?, nothing)
+    routine_of(alloc, links, code.finish()?, nothing)
 }
 
 /// The code of the fields' initialisers, in order.
@@ -230,12 +244,14 @@ fn emit_init(code: &mut Builder, names: &mut Layout, member: &Member) -> Result<
 fn emit_routine(
     alloc: Global,
     names: &mut Layout,
+    links: &Links,
     body: Body,
     members: &[Member],
 ) -> Result<Routine, NoMemory>
     ensures code { IfOk result (λ routine. code_of routine.code
         ≡ spec.stmts_nodes names.old false (body_block body (members_of members.now))) }
     ensures flat { IfOk result (λ routine. IsFlat routine.flat (code_of routine.code)) }
+    ensures linked { IfOk result (λ routine. IsLinked links.now routine.flat) }
     ensures limits { IfOk result (λ routine. routine.limits
         ≡ lowered.limits_of (body_rates body (members_of members.now))) }
     ensures names { OnOk result (names.new ≡ names.old) }
@@ -243,5 +259,5 @@ fn emit_routine(
     let mut code = Builder::new(alloc);
     emit_block(&mut code, names, bodies::block_of(members, body))?;
     let limits = bodies::limits_of(bodies::rates_of(members, body));
-    routine_of(alloc, code.finish()?, limits)
+    routine_of(alloc, links, code.finish()?, limits)
 }

@@ -103,6 +103,7 @@ fn emit_call(
         first: free,
         count: end - free,
         into,
+        place: None,
     };
     code.put_node(Node::Call(call))
 }

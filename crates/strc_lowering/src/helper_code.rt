@@ -1,14 +1,16 @@
 // The code of helper functions.
 
-ghost use Rattle.std.specs.Prelude.{◌≡◌, IfOk, OnOk};
+ghost use Rattle.std.specs.Prelude.{◌≡◌, IfOk, IfSome, OnOk};
 ghost use Rattle.strc_syntax.specs.View.{block_view, member_view};
 ghost use Rattle.strc_semantics.specs.Filters.{members_of};
 ghost use Rattle.strc_semantics.specs.Scoping.{with_parameters};
 ghost use Rattle.strc_code.specs.Helpers.{IsHelper, IsHelperOf, AreHelpers};
+ghost use Rattle.strc_code.specs.Links.{IsLinked, AreLinkedCodes};
 
 use crate::builder::Builder;
 use crate::layout::Layout;
 use crate::linearize::linearize;
+use crate::links::Links;
 use crate::statement_code::emit_block;
 use std::alloc::Global;
 use strc_base::memory::NoMemory;
@@ -20,15 +22,17 @@ use strc_syntax::tree::{Member, Stmt};
 pub fn emit_helpers(
     alloc: Global,
     names: &mut Layout,
+    links: &Links,
     members: &[Member],
 ) -> Result<Vec<HelperCode>, NoMemory>
     ensures codes { IfOk result (λ codes. AreHelpers names.old (members_of members.now)
         codes.items) }
+    ensures linked { IfOk result (λ codes. AreLinkedCodes links.now codes.items) }
     ensures names { OnOk result (names.new ≡ names.old) }
 {
     let mut codes = Vec::new(alloc);
     for member in members {
-        if let Some(code) = emit_member(alloc, names, member)? {
+        if let Some(code) = emit_member(alloc, names, links, member)? {
             codes.push(code)?;
         }
     }
@@ -39,14 +43,16 @@ pub fn emit_helpers(
 fn emit_member(
     alloc: Global,
     names: &mut Layout,
+    links: &Links,
     member: &Member,
 ) -> Result<Option<HelperCode>, NoMemory>
     ensures code { IfOk result (λ found. IsHelperOf names.old (member_view member.now) found) }
+    ensures linked { IfOk result (λ found. IfSome found (λ code. IsLinked links.now code.flat)) }
     ensures names { OnOk result (names.new ≡ names.old) }
 {
     match member {
         Member::Helper(_, name, parameters, block) => {
-            let code = emit_helper(alloc, names, name, parameters, block)?;
+            let code = emit_helper(alloc, names, links, name, parameters, block)?;
             Ok(Some(code))
         }
         Member::Fields(_) | Member::Init(_) | Member::Prework(_, _) | Member::Work(_, _) => {
@@ -59,12 +65,14 @@ fn emit_member(
 fn emit_helper(
     alloc: Global,
     names: &mut Layout,
+    links: &Links,
     name: &Name,
     parameters: &[Name],
     block: &[Stmt],
 ) -> Result<HelperCode, NoMemory>
     ensures code { IfOk result (λ code. IsHelper names.old name.now parameters.now
         (block_view block.now) code) }
+    ensures linked { IfOk result (λ code. IsLinked links.now code.flat) }
     ensures names { OnOk result (names.new ≡ names.old) }
 {
     let start = names.len();
@@ -76,7 +84,7 @@ fn emit_helper(
     emit_block(&mut code, names, block)?;
     names.leave(start);
     let block = code.finish()?;
-    let flat = linearize(alloc, &block)?;
+    let flat = linearize(alloc, links, &block)?;
     let slots = variables.max(block.slot_count());
     Ok(HelperCode {
         name: name.copy()?,

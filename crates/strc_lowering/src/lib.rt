@@ -14,6 +14,7 @@ mod helper_code;
 mod kept;
 mod layout;
 mod linearize;
+mod links;
 mod operands;
 mod routine;
 mod statement_code;

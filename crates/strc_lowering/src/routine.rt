@@ -3,8 +3,10 @@
 ghost use Rattle.std.specs.Prelude.{◌≡◌, IfOk};
 ghost use Rattle.strc_code.specs.Code.{code_of};
 ghost use Rattle.strc_code.specs.Flat.{IsFlat};
+ghost use Rattle.strc_code.specs.Links.{IsLinked};
 
 use crate::linearize::linearize;
+use crate::links::Links;
 use std::alloc::Global;
 use strc_base::memory::NoMemory;
 use strc_code::code::Routine;
@@ -12,11 +14,17 @@ use strc_code::limits::FiringLimits;
 use strc_code::node::Node;
 
 /// The routine of this code.
-pub fn routine_of(alloc: Global, code: Node, limits: FiringLimits) -> Result<Routine, NoMemory>
+pub fn routine_of(
+    alloc: Global,
+    links: &Links,
+    code: Node,
+    limits: FiringLimits,
+) -> Result<Routine, NoMemory>
     ensures code { IfOk result (λ routine. routine.code ≡ code) }
     ensures flat { IfOk result (λ routine. IsFlat routine.flat (code_of routine.code)) }
+    ensures linked { IfOk result (λ routine. IsLinked links.now routine.flat) }
     ensures limits { IfOk result (λ routine. routine.limits ≡ limits) }
 {
-    let flat = linearize(alloc, &code)?;
+    let flat = linearize(alloc, links, &code)?;
     Ok(Routine { code, flat, limits })
 }

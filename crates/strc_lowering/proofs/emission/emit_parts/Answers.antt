@@ -2,6 +2,7 @@ use Rattle.std.proofs.Common.{◌∙◌, sym, ap, subst}
 use Rattle.strc_semantics.specs.Filters.{members_of}
 use Rattle.strc_semantics.specs.Scoping.{total}
 use Rattle.strc_code.specs.Helpers.{AreHelpers}
+use Rattle.strc_code.specs.Links.{IsLinked, AreLinkedCodes}
 use Rattle.strc_lowering.proofs.Prework.{parts_of}
 use Rattle.strc_lowering.proofs.emission.emit_parts.Goals as goal
 
@@ -15,3 +16,7 @@ returns c =
     (sym same) c.in_ok-helpers.ensures.codes)
     c.in_ok-start.ensures.names (c.total-fields.ensures ∙ ap total (sym same))
     c.in_ok-start.ensures.code c.in_ok-start.ensures.flat c.in_ok-prework.ensures
+    (subst (λ n. IsLinked n c.in_ok-start.start.flat) c.in_ok-links.ensures
+    c.in_ok-start.ensures.linked)
+    (subst (λ n. AreLinkedCodes n c.in_ok-helpers.helpers.items) c.in_ok-links.ensures
+    c.in_ok-helpers.ensures.linked)

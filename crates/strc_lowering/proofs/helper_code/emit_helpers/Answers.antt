@@ -8,6 +8,9 @@ use Rattle.strc_semantics.specs.Filters.{members_of}
 use Rattle.strc_base.proofs.Lists.{map-drop}
 use Rattle.strc_code.specs.declared.helper.HelperCode.{HelperCode}
 use Rattle.strc_code.specs.Helpers.{IsHelperOf, AreHelpers}
+use Rattle.strc_code.specs.Links.{IsLinked, AreLinkedCodes}
+use Rattle.strc_lowering.proofs.Linking.{codes_linked_more}
+use Rattle.std.specs.Prelude.{IfSome}
 use Rattle.strc_semantics.specs.Scoping.{Scope}
 use Rattle.strc_lowering.proofs.HelperScopes.{helper_first, helper_none}
 use Rattle.strc_lowering.proofs.helper_code.emit_helpers.Goals as goal
@@ -44,6 +47,13 @@ loop-member-preserved c =
             ∙ ap (λ l. l ++ later) w.in_ok-push.ensures.items
             ∙ append_assoc c.loop-member.codes.items (w.in-Some.code ∷ []) later);
         names = kept;
+        linked = subst (AreLinkedCodes c.args.links.now)
+            (sym (ap (λ (v : Vec HelperCode Global). v.items) w.codes-is
+            ∙ w.in_ok-push.ensures.items))
+            (codes_linked_more c.args.links.now c.loop-member.codes.items w.in-Some.code
+            c.loop-member.invariant.linked
+            (subst (λ (o : Option HelperCode). IfSome o (λ code. IsLinked c.args.links.now
+            code.flat)) w.in-Some.is c.in_ok-code.ensures.linked));
       }
       | in_default w ↦ record {
         codes = λ later h.
@@ -53,6 +63,8 @@ loop-member-preserved c =
             (helper_none fields m rest later none h)
             (ap (λ (v : Vec HelperCode Global). v.items ++ later) w.codes-is);
         names = kept;
+        linked = subst (λ (v : Vec HelperCode Global). AreLinkedCodes c.args.links.now v.items)
+            (sym w.codes-is) c.loop-member.invariant.linked;
       }
     ]
 
