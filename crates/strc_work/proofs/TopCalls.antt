@@ -1,7 +1,6 @@
 -- What a firing may call, of which none is running.
-use Rattle.std.proofs.Common.{◌≡◌, ℕ, zero, suc, ◌+◌, ◌-◌, ◌*◌, ◌≤◌, Bool, true, false, cond, ℤ}
-use Rattle.std.proofs.Common.{pos, List}
-use Rattle.std.proofs.Common.{[], ◌∷◌, take, replicate, refl, ap, ◌∙◌, arith}
+use Rattle.std.proofs.Common.{◌≡◌, ℕ, ◌+◌, ◌-◌, ◌*◌, ◌≤◌, Bool, true, false, cond}
+use Rattle.std.proofs.Common.{List, sym, ap, ◌∙◌, arith}
 use Rattle.std.specs.Prelude.{nat_lt}
 use Rattle.strc_syntax.specs.declared.tree.FilterTree.{FilterTree}
 use Rattle.strc_semantics.specs.Filters.{filter_of, sized_fields}
@@ -9,10 +8,36 @@ use Rattle.strc_semantics.specs.Scoping.{total}
 use Rattle.strc_semantics.specs.Firing.{Port, setting_at, call_limit}
 use Rattle.strc_semantics.proofs.Turns.{call_limit-is}
 use Rattle.strc_code.specs.Lowering.{field_scope, slot_count, helpers_room}
-use Rattle.strc_code.specs.Helpers.{saved_count}
+use Rattle.strc_code.specs.declared.helper.HelperCode.{HelperCode}
+use Rattle.strc_code.specs.Helpers.{AreHelpers, saved_count}
+use Rattle.strc_code.specs.Links.{helper_names, AreLinkedCodes}
+use Rattle.strc_semantics.specs.Closed.{IsClosedFilter}
 use Rattle.strc_code.proofs.HelperRooms.{codes_room-is}
 use Rattle.strc_work.specs.Settings.{level_setting}
 use Rattle.strc_work.specs.Calls.{Callable, IsCallable, filter_in, save_room, setting_in}
+
+-- what may be called of a filter, by its code
+pub callable_of : (tree : FilterTree) (helpers : List HelperCode) (fields room levels : ℕ)
+    → AreHelpers (field_scope (filter_of tree)) (filter_of tree).members helpers
+    → AreLinkedCodes (helper_names (filter_of tree).members) helpers
+    → fields ≡ total (sized_fields (filter_of tree).members)
+    → room ≡ helpers_room (field_scope (filter_of tree)) (filter_of tree).members
+    → IsClosedFilter (filter_of tree)
+    → IsCallable (record {
+      tree = tree;
+      helpers = helpers;
+      fields = fields;
+      room = room;
+      levels = levels;
+    })
+callable_of tree helpers fields room levels are linked fields_are room_is closed = record {
+  helpers_are = are;
+  fields_are = fields_are;
+  room_is = room_is ∙ sym (codes_room-is (field_scope (filter_of tree)) (filter_of tree).members
+      helpers are);
+  linked = linked;
+  closed = closed;
+}
 
 -- they stand in the filter's setting
 pub top_setting : (calls : Callable) (tree : FilterTree) (port : Port) → calls.tree ≡ tree
@@ -58,17 +83,3 @@ callable_saves calls tree is tree_is levels_are =
     is.fields_are
     ∙ ap (λ t. saved_count (filter_of t)) tree_is in
     omega (arith, less, same)
-
--- ---- the first of the slots
-
-pub take_own : (n k : ℕ) (slots : List ℤ) → n ≤ k → take n (take k slots) ≡ take n slots
-take_own zero k slots le = refl
-take_own (suc n) zero slots le = absurd (omega (arith, le))
-take_own (suc n) (suc k) [] le = refl
-take_own (suc n) (suc k) (first ∷ rest) le =
-    ap (λ l. first ∷ l) (take_own n k rest (omega (arith, le)))
-
-pub take_zeros : (n m : ℕ) → n ≤ m → take n (replicate m (pos 0)) ≡ replicate n (pos 0)
-take_zeros zero m le = refl
-take_zeros (suc n) zero le = absurd (omega (arith, le))
-take_zeros (suc n) (suc m) le = ap (λ l. pos 0 ∷ l) (take_zeros n m (omega (arith, le)))

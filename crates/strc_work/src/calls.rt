@@ -2,10 +2,10 @@
 
 ghost use Rattle.std.specs.Prelude.{◌≡◌, ◌≤◌, ◌+◌, ◌-◌, length, take, drop, IfSome, Some};
 ghost use Rattle.std.specs.Prelude.{None, ◌<◌};
-ghost use Rattle.strc_work.specs.Calls.{begun_slots, ended_slots, code_named};
+ghost use Rattle.strc_work.specs.Calls.{begun_slots, ended_slots, code_at};
 
 use std::marker::Model;
-use strc_base::name::Name;
+use strc_code::call::Call;
 use strc_code::code::Code;
 use strc_code::helper::HelperCode;
 use strc_semantics::fault::CALL_LIMIT;
@@ -51,7 +51,8 @@ impl<'a> Model for Calls<'a> {
 impl<'a> Calls<'a> {
     ghost use Rattle.std.specs.Prelude.{◌≡◌, ◌≤◌, ◌-◌, IfSome, Some, None, ◌<◌};
     ghost use Rattle.strc_semantics.specs.Firing.{call_limit};
-    ghost use Rattle.strc_work.specs.Calls.{IsFound, IsRefused, one_level_in, IsCallable};
+    ghost use Rattle.strc_code.specs.Links.{place_of};
+    ghost use Rattle.strc_work.specs.Calls.{IsFound, IsRefused, one_level_in, IsCallable, names_in};
 
     /// The helper functions of a code, none of which is running.
     #[inline]
@@ -60,17 +61,12 @@ impl<'a> Calls<'a> {
         ensures tree { result.tree ≡ code.now }
         ensures levels { result.levels ≡ call_limit }
     {
-        let helpers = code.helpers();
-        let mut room = 0;
-        for helper in helpers {
-            room = room.max(helper.slots);
-        }
         let _closed = code.tree();
         Calls {
             code,
-            helpers,
+            helpers: code.helpers(),
             fields: code.field_count(),
-            room,
+            room: code.call_count(),
             levels: CALL_LIMIT,
         }
     }
@@ -94,14 +90,17 @@ impl<'a> Calls<'a> {
         })
     }
 
-    /// The code of the helper function of a name, where it has so many parameters.
+    /// The code of the helper function that is called, where it has as many parameters as there
+    /// are arguments.
     #[inline(always)]
-    pub fn helper(&self, name: &Name, count: usize) -> Option<&'a HelperCode>
-        ensures some { IfSome result (λ code. IsFound self.now name.now count code.now) }
-        ensures none { result ≡ None → IsRefused self.now name.now count }
+    pub fn helper(&self, call: &Call) -> Option<&'a HelperCode>
+        requires linked { call.now.place ≡ place_of (names_in self.now) call.now.name }
+        ensures some { IfSome result (λ code. IsFound self.now call.now.name call.now.count
+            code.now) }
+        ensures none { result ≡ None → IsRefused self.now call.now.name call.now.count }
     {
-        let helper = named(self.helpers, name)?;
-        if helper.parameters != count {
+        let helper = standing_at(self.helpers, call.place)?;
+        if helper.parameters != call.count as usize {
             return None;
         }
         Some(helper)
@@ -124,18 +123,16 @@ impl<'a> Calls<'a> {
     }
 }
 
-/// The first code of a name.
+/// The code that stands at a place.
 #[inline(always)]
-fn named<'a>(helpers: &'a [HelperCode], name: &Name) -> Option<&'a HelperCode>
-    ensures some { IfSome result (λ code. code_named helpers.now name.now ≡ Some code.now) }
-    ensures none { result ≡ None → code_named helpers.now name.now ≡ None }
+fn standing_at(helpers: &[HelperCode], place: Option<usize>) -> Option<&HelperCode>
+    ensures some { IfSome result (λ code. code_at helpers.now place ≡ Some code.now) }
+    ensures none { result ≡ None → code_at helpers.now place ≡ None }
 {
-    for helper in helpers {
-        if helper.name.is(name) {
-            return Some(helper);
-        }
+    match place {
+        Some(place) => helpers.get(place),
+        None => None,
     }
-    None
 }
 
 /// Saves the slots that are no field's, as many as there is room for, and puts the answer and the

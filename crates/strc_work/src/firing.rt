@@ -51,7 +51,7 @@ pub trait Fire {
         ensures values { Starts (started (filter self.now)) result }
         ensures state { IfOk result (λ state. IsStateOf (filter self.now) state) };
 
-    /// Room for the pushes of one firing, of either body.
+    /// Room for the pushes of one firing, of either body, and for 64 running calls.
     fn frame(&self, alloc: Global) -> Result<Frame, NoMemory>
         ensures frame { IfOk result (λ frame. IsFrameOf (filter self.now) frame) }
         ensures pushes { IfOk result (λ frame. frame.items ≡ []) };
@@ -110,11 +110,10 @@ fn start_code(code: &Code, alloc: Global) -> Result<State, StartError>
     ensures state { IfOk result (λ state. IsStateOf (filters.filter_of code.now) state) }
 {
     let fields = code.field_count();
-    let room = code.slot_count();
-    let Some(places) = room.checked_add(code.saved_count()) else {
+    let Ok(mut slots) = Vec::from_elem(alloc, 0, code.slot_count()) else {
         return Err(StartError::NoMemory);
     };
-    let Ok(mut slots) = Vec::from_elem(alloc, 0, places) else {
+    let Ok(mut saved) = Vec::from_elem(alloc, 0, code.saved_count()) else {
         return Err(StartError::NoMemory);
     };
     let mut io = FiringIo::new(alloc, Vec::new(alloc));
@@ -126,21 +125,20 @@ fn start_code(code: &Code, alloc: Global) -> Result<State, StartError>
     let nothing: &[i32] = &[];
     let port = FiringPort::new(limits, &nothing);
     let calls = Calls::new(code);
-    let (own, saved) = slots.split_at_mut(room);
     match machine::run(
         &code.start_routine().flat,
-        own,
+        &mut slots,
         &mut io,
         &port,
         &calls,
-        saved,
+        &mut saved,
     ) {
         Ok(()) => Ok(State { slots, fields }),
         Err(halt) => Err(start_error(halt)),
     }
 }
 
-/// Room for the pushes of one firing, of either body of a code.
+/// Room for the pushes of one firing, of either body of a code, and for 64 running calls.
 fn frame_of(code: &Code, alloc: Global) -> Result<Frame, NoMemory>
     ensures frame { IfOk result (λ frame. IsFrameOf (filters.filter_of code.now) frame) }
     ensures pushes { IfOk result (λ frame. frame.items ≡ []) }
@@ -148,8 +146,10 @@ fn frame_of(code: &Code, alloc: Global) -> Result<Frame, NoMemory>
     let first = code.routine(Body::Prework).limits.pushes;
     let room = first.max(code.routine(Body::Work).limits.pushes);
     let buffer = Vec::from_elem(alloc, 0, room as usize)?;
+    let saved = Vec::from_elem(alloc, 0, code.saved_count())?;
     Ok(Frame {
         io: FiringIo::new(alloc, buffer),
+        saved,
     })
 }
 
@@ -179,8 +179,14 @@ fn fire_code<W: Window>(
     let port = FiringPort::new(routine.limits, window);
     frame.io.begin(words);
     let calls = Calls::new(code);
-    let (own, saved) = state.slots.split_at_mut(code.slot_count());
-    let result = machine::run(&routine.flat, own, &mut frame.io, &port, &calls, saved);
+    let result = machine::run(
+        &routine.flat,
+        &mut state.slots,
+        &mut frame.io,
+        &port,
+        &calls,
+        &mut frame.saved,
+    );
     frame.io.end(words);
     result
 }

@@ -1,22 +1,29 @@
-// What one firing has popped and pushed.
+// What one firing has popped and pushed, and what its callers wait with.
 
 ghost use Rattle.std.specs.Prelude.{◌≡◌};
 
 use std::marker::Model;
 use strc_instructions::io::FiringIo;
 
-/// The items that a firing has pushed, with room for as many as it may push. Contracts see both.
+/// The items that a firing has pushed, with room for as many as it may push, and room for the
+/// locals of callers that wait for their calls. Contracts see the items and both rooms.
 #[derive(Drop)]
 pub struct Frame {
     pub(crate) io: FiringIo,
+    pub(crate) saved: Vec<i32>,
 }
 
 impl Model for Frame {
+    ghost use Rattle.std.specs.Prelude.{length};
     ghost use Rattle.strc_work.specs.Kept.{Pushed};
 
     ghost Value = { Pushed };
 
-    ghost view = { λ f. record { items = f.io.traffic.pushes; room = f.io.room } };
+    ghost view = { λ f. record {
+      items = f.io.traffic.pushes;
+      room = f.io.room;
+      saved = length f.saved.items;
+    } };
 }
 
 impl Frame {

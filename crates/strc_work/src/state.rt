@@ -4,8 +4,8 @@ ghost use Rattle.std.specs.Prelude.{◌≡◌};
 
 use std::marker::Model;
 
-/// The values of a filter's fields, and room after them for the locals of a firing, and for those
-/// of callers that wait for their calls. Contracts see the values, in order, and the room for all.
+/// The values of a filter's fields, and room after them for the locals of a firing. Contracts see
+/// the values, in order, and the room for all.
 #[derive(Drop)]
 pub struct State {
     pub(crate) slots: Vec<i32>,

@@ -1,20 +1,19 @@
-use Rattle.std.proofs.Common.{◌≡◌, drop, ap, arith, sym}
-use Rattle.std.proofs.Math.ListN.{drop_of_length-le}
-use Rattle.strc_code.specs.Helpers.{codes_room}
+use Rattle.std.proofs.Common.{sym}
 use Rattle.strc_semantics.proofs.Turns.{call_limit-is}
+use Rattle.strc_work.proofs.TopCalls.{callable_of}
 use Rattle.strc_work.proofs.calls.Calls.new.Goals as goal
 
 pub invariant_of-result : goal.invariant_of-result
 invariant_of-result c =
-    let helpers = c.helpers-helpers.result.now in
-    let none : codes_room (drop c.loop-helper.helper-index helpers) ≡ 0 =
-    ap codes_room (drop_of_length-le helpers c.loop-helper-test.false) in
-    record {
-      helpers_are = c.helpers-helpers.ensures;
-      fields_are = c.field_count.ensures;
-      room_is = omega (arith, c.loop-helper.invariant, none);
-      closed = c.tree-closed.ensures.known;
-    }
+    callable_of c.args.code.now c.helpers.result.now c.field_count.result c.call_count.result 64
+    c.helpers.ensures.are c.helpers.ensures.linked c.field_count.ensures c.call_count.ensures
+    c.tree-closed.ensures.known
+
+pub returns-clause-callable : goal.returns-clause-callable
+returns-clause-callable c =
+    callable_of c.args.code.now c.helpers.result.now c.field_count.result c.call_count.result 64
+    c.helpers.ensures.are c.helpers.ensures.linked c.field_count.ensures c.call_count.ensures
+    c.tree-closed.ensures.known
 
 pub returns-clause-levels : goal.returns-clause-levels
 returns-clause-levels c = sym call_limit-is
