@@ -1,5 +1,5 @@
 -- How often what can fault so occurs in the text of a filter: divisions and remainders by what can
--- be zero, elements of arrays, peeks, loops.
+-- be zero, elements of arrays, peeks, loops and calls.
 use Rattle.std.specs.Prelude.{ℕ, ◌+◌, ℤ, pos, Bool, true, List, [], ◌∷◌, Option, Some, None}
 use Rattle.std.specs.Prelude.{if◌then◌else◌, ◌&&◌, false}
 use Rattle.std.specs.Ordering.{int_eq}
@@ -21,8 +21,8 @@ abbrev pub sought_for : Cause → Sought
 sought_for cause.DivZero = sought.Division
 sought_for cause.Index = sought.Element
 sought_for cause.PeekRange = sought.Peek
-sought_for cause.Turns = sought.Loop
-sought_for cause.Calls = sought.Loop
+sought_for cause.Turns = sought.Turn
+sought_for cause.Calls = sought.Call
 
 -- one where this is what is looked for
 abbrev pub one : Sought → Sought → ℕ
@@ -52,26 +52,34 @@ abbrev pub division : Sought → Bool → tree.Expr → ℕ
 division looked is_one divisor =
     if is_one && can_be_zero divisor then one looked sought.Division else 0
 
-abbrev pub expression_count : Sought → tree.Expr → ℕ
-expression_count looked (tree.Number value) = 0
-expression_count looked (tree.Truth value) = 0
-expression_count looked (tree.Read name) = 0
-expression_count looked (tree.Element name index) =
-    expression_count looked index + one looked sought.Element
-expression_count looked tree.Pop = 0
-expression_count looked (tree.Peek index) = expression_count looked index + one looked sought.Peek
-expression_count looked (tree.Call name arguments) = 0
-expression_count looked (tree.Group inner) = expression_count looked inner
-expression_count looked (tree.Unary operator operand) = expression_count looked operand
-expression_count looked (tree.Step operator name) = 0
-expression_count looked (tree.StepElement operator name index) =
-    expression_count looked index + one looked sought.Element
-expression_count looked (tree.Binary operator left right) =
-    expression_count looked left + expression_count looked right
-    + division looked (divides operator) right
-expression_count looked (tree.Conditional condition chosen other) =
-    expression_count looked condition + expression_count looked chosen
-    + expression_count looked other
+abbrev mutual
+  pub expression_count : Sought → tree.Expr → ℕ
+  expression_count looked (tree.Number value) = 0
+  expression_count looked (tree.Truth value) = 0
+  expression_count looked (tree.Read name) = 0
+  expression_count looked (tree.Element name index) =
+      expression_count looked index + one looked sought.Element
+  expression_count looked tree.Pop = 0
+  expression_count looked (tree.Peek index) = expression_count looked index + one looked sought.Peek
+  expression_count looked (tree.Call name arguments) =
+      arguments_count looked arguments + one looked sought.Call + one looked sought.Turn
+  expression_count looked (tree.Group inner) = expression_count looked inner
+  expression_count looked (tree.Unary operator operand) = expression_count looked operand
+  expression_count looked (tree.Step operator name) = 0
+  expression_count looked (tree.StepElement operator name index) =
+      expression_count looked index + one looked sought.Element
+  expression_count looked (tree.Binary operator left right) =
+      expression_count looked left + expression_count looked right
+      + division looked (divides operator) right
+  expression_count looked (tree.Conditional condition chosen other) =
+      expression_count looked condition + expression_count looked chosen
+      + expression_count looked other
+
+  -- in the arguments of a call
+  pub arguments_count : Sought → tree.Arguments → ℕ
+  arguments_count looked tree.NoArgument = 0
+  arguments_count looked (tree.Argument first rest) =
+      expression_count looked first + arguments_count looked rest
 
 abbrev pub option_count : Sought → Option tree.Expr → ℕ
 option_count looked None = 0
@@ -98,28 +106,41 @@ abbrev mutual
   stmt_count looked (tree.IfElse condition chosen other) =
       expression_count looked condition + stmt_count looked chosen + stmt_count looked other
   stmt_count looked (tree.While condition body) =
-      one looked sought.Loop + expression_count looked condition + stmt_count looked body
+      one looked sought.Turn + expression_count looked condition + stmt_count looked body
   stmt_count looked (tree.For first condition step body) =
-      one looked sought.Loop + stmt_count looked first + option_count looked condition
+      one looked sought.Turn + stmt_count looked first + option_count looked condition
       + stmt_count looked step + stmt_count looked body
   stmt_count looked (tree.Push value) = expression_count looked value
   stmt_count looked (tree.Print value) = expression_count looked value
   stmt_count looked (tree.Println value) = expression_count looked value
   stmt_count looked (tree.Compose statement) = 0
-  stmt_count looked (tree.Return value) = 0
+  stmt_count looked (tree.Return value) = option_count looked value
 
   pub row_count : Sought → tree.Stmts → ℕ
   row_count looked tree.Done = 0
   row_count looked (tree.Then first rest) = stmt_count looked first + row_count looked rest
 
--- in what a filter starts with: the initialisers of its fields, and `init`
+-- in what a filter starts with: the initialisers of its fields, `init`, and the helper functions,
+-- any of which may be called there
 abbrev pub member_count : Sought → tree.Member → ℕ
 member_count looked (tree.Fields kind variables) = variables_count looked variables
 member_count looked (tree.Init block) = row_count looked block
 member_count looked (tree.Prework rates block) = 0
 member_count looked (tree.Work rates block) = 0
-member_count looked (tree.Helper kind name parameters block) = 0
+member_count looked (tree.Helper kind name parameters block) = row_count looked block
 
 abbrev pub start_count : Sought → List tree.Member → ℕ
 start_count looked [] = 0
 start_count looked (first ∷ rest) = member_count looked first + start_count looked rest
+
+-- in the helper functions of a filter, any of which a body may call
+abbrev pub helper_count : Sought → tree.Member → ℕ
+helper_count looked (tree.Fields kind variables) = 0
+helper_count looked (tree.Init block) = 0
+helper_count looked (tree.Prework rates block) = 0
+helper_count looked (tree.Work rates block) = 0
+helper_count looked (tree.Helper kind name parameters block) = row_count looked block
+
+abbrev pub helpers_count : Sought → List tree.Member → ℕ
+helpers_count looked [] = 0
+helpers_count looked (first ∷ rest) = helper_count looked first + helpers_count looked rest

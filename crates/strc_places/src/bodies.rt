@@ -1,7 +1,7 @@
 // Places in the bodies of a filter.
 
 use crate::counted::uncounted;
-use crate::occurrences::{Sought, occurrences, single, sought_for};
+use crate::occurrences::{Sought, occurrences, occurrences_in_firing, single, sought_for};
 use std::alloc::Global;
 use strc_base::memory::NoMemory;
 use strc_base::place::Span;
@@ -39,7 +39,8 @@ pub fn uncounted_statement(alloc: Global, code: &Code) -> Result<Option<Span>, N
     Ok(None)
 }
 
-/// The statement of a body that faults, where no other one can for this cause.
+/// The statement that faults in a firing, where no other one of its body or of a helper function can
+/// for this cause.
 pub fn faulting_statement(
     alloc: Global,
     code: &Code,
@@ -49,7 +50,8 @@ pub fn faulting_statement(
     match cause {
         Cause::PeekRange => open_peek(alloc, code, body),
         _ => {
-            let found = occurrences(alloc, code.block(body), sought_for(cause))?;
+            let members = &code.tree().members;
+            let found = occurrences_in_firing(alloc, members, code.block(body), sought_for(cause))?;
             Ok(single(&found))
         }
     }

@@ -1,9 +1,10 @@
-// The statements of a filter's body in which something occurs, in order of the text.
+// The statements in which something occurs that can fault: those of a body, of the helper functions
+// that it may call, and of what a filter starts with, in order of the text.
 
 ghost use Rattle.std.specs.Prelude.{◌≡◌, ◌+◌, IfOk, OnOk, length, map};
 ghost use Rattle.std.specs.Option.{option_map};
 ghost use Rattle.strc_syntax.specs.View.{expr_view, stmt_view, block_view, variable_view};
-ghost use Rattle.strc_syntax.specs.View.{member_view};
+ghost use Rattle.strc_syntax.specs.View.{listed_view, member_view};
 ghost use Rattle.strc_places.specs.Occurrences as spec;
 
 use std::alloc::Global;
@@ -21,7 +22,10 @@ pub enum Sought {
     /// An element of an array.
     Element,
     Peek,
-    Loop,
+    /// A loop or a call, which count turns.
+    Turn,
+    /// A call of a helper function.
+    Call,
 }
 
 /// A walk over a body.
@@ -50,8 +54,31 @@ pub fn occurrences(
     Ok(found)
 }
 
-/// Of each occurrence in what a filter starts with, the initialisers of its fields and `init`, the
-/// statement that it is in.
+/// Of each occurrence in a body, and then in the helper functions among the filter's members, any of
+/// which the body may call, the statement that it is in.
+pub fn occurrences_in_firing(
+    alloc: Global,
+    members: &[Member],
+    block: &[Stmt],
+    sought: Sought,
+) -> Result<Vec<Option<Span>>, NoMemory>
+    ensures { IfOk result (λ found. length found.items
+        ≡ spec.row_count sought (block_view block.now)
+        + spec.helpers_count sought (map member_view members.now)) }
+{
+    let mut walk = Walk {
+        sought,
+        found: occurrences(alloc, block, sought)?,
+    };
+    for member in members {
+        walk_helper(member, &mut walk)?;
+    }
+    let Walk { sought: _, found } = walk;
+    Ok(found)
+}
+
+/// Of each occurrence in what a filter starts with the statement that it is in: the initialisers of
+/// its fields, `init`, and the helper functions, any of which may be called there.
 pub fn occurrences_at_start(
     alloc: Global,
     members: &[Member],
@@ -80,7 +107,20 @@ fn walk_member(member: &Member, walk: &mut Walk) -> Result<(), NoMemory>
     match member {
         Member::Fields(fields) => walk_variables(&fields.variables, Some(fields.place), walk),
         Member::Init(block) => walk_block(block, None, walk),
-        Member::Prework(_, _) | Member::Work(_, _) | Member::Helper(_, _, _, _) => Ok(()),
+        Member::Prework(_, _) | Member::Work(_, _) => Ok(()),
+        Member::Helper(_, _, _, _) => walk_helper(member, walk),
+    }
+}
+
+fn walk_helper(member: &Member, walk: &mut Walk) -> Result<(), NoMemory>
+    ensures counts { OnOk result (length walk.new.found.items
+        ≡ length walk.old.found.items
+        + spec.helper_count walk.old.sought (member_view member.now)) }
+    ensures sought { OnOk result (walk.new.sought ≡ walk.old.sought) }
+{
+    match member {
+        Member::Helper(_, _, _, body) => walk_block(body, None, walk),
+        _ => Ok(()),
     }
 }
 
@@ -103,13 +143,14 @@ fn walk_statement(statement: &Stmt, here: Option<Span>, walk: &mut Walk) -> Resu
     ensures sought { OnOk result (walk.new.sought ≡ walk.old.sought) }
 {
     match statement {
-        Stmt::Empty | Stmt::Return(_) | Stmt::Compose(_) => Ok(()),
+        Stmt::Empty | Stmt::Compose(_) => Ok(()),
         Stmt::Block(body) => walk_block(body, here, walk),
         Stmt::Placed(place, inner) => walk_statement(inner, Some(*place), walk),
         Stmt::Declare(declared) => walk_variables(&declared.variables, here, walk),
         Stmt::Evaluate(value) | Stmt::Push(value) | Stmt::Print(value) | Stmt::Println(value) => {
             walk_expression(value, here, walk)
         }
+        Stmt::Return(value) => walk_option(value, here, walk),
         Stmt::Assign(_, operator, value) => {
             walk_expression(value, here, walk)?;
             walk.assigned(*operator, value, here)
@@ -130,12 +171,12 @@ fn walk_statement(statement: &Stmt, here: Option<Span>, walk: &mut Walk) -> Resu
             walk_statement(other, here, walk)
         }
         Stmt::While(condition, body) => {
-            walk.meet(Sought::Loop, here)?;
+            walk.meet(Sought::Turn, here)?;
             walk_expression(condition, here, walk)?;
             walk_statement(body, here, walk)
         }
         Stmt::For(first, condition, step, body) => {
-            walk.meet(Sought::Loop, here)?;
+            walk.meet(Sought::Turn, here)?;
             walk_statement(first, here, walk)?;
             walk_option(condition, here, walk)?;
             walk_statement(step, here, walk)?;
@@ -180,16 +221,16 @@ fn walk_expression(value: &Expr, here: Option<Span>, walk: &mut Walk) -> Result<
     ensures sought { OnOk result (walk.new.sought ≡ walk.old.sought) }
 {
     match value {
-        Expr::Number(_)
-        | Expr::Truth(_)
-        | Expr::Read(_)
-        | Expr::Pop
-        | Expr::Call(_, _)
-        | Expr::Step(_, _) => Ok(()),
+        Expr::Number(_) | Expr::Truth(_) | Expr::Read(_) | Expr::Pop | Expr::Step(_, _) => Ok(()),
         Expr::Group(inner) | Expr::Unary(_, inner) => walk_expression(inner, here, walk),
         Expr::Peek(index) => {
             walk_expression(index, here, walk)?;
             walk.meet(Sought::Peek, here)
+        }
+        Expr::Call(_, arguments) => {
+            walk_arguments(arguments, here, walk)?;
+            walk.meet(Sought::Call, here)?;
+            walk.meet(Sought::Turn, here)
         }
         Expr::Element(_, index) | Expr::StepElement(_, _, index) => {
             walk_expression(index, here, walk)?;
@@ -211,6 +252,19 @@ fn walk_expression(value: &Expr, here: Option<Span>, walk: &mut Walk) -> Result<
     }
 }
 
+#[cycle(expression)]
+fn walk_arguments(arguments: &[Expr], here: Option<Span>, walk: &mut Walk) -> Result<(), NoMemory>
+    ensures counts { OnOk result (length walk.new.found.items
+        ≡ length walk.old.found.items + spec.arguments_count walk.old.sought
+        (listed_view arguments.now)) }
+    ensures sought { OnOk result (walk.new.sought ≡ walk.old.sought) }
+{
+    for argument in arguments {
+        walk_expression(argument, here, walk)?;
+    }
+    Ok(())
+}
+
 /// What can have a fault of this cause.
 pub fn sought_for(cause: Cause) -> Sought
     ensures { result ≡ spec.sought_for cause }
@@ -219,7 +273,8 @@ pub fn sought_for(cause: Cause) -> Sought
         Cause::DivZero => Sought::Division,
         Cause::Index => Sought::Element,
         Cause::PeekRange => Sought::Peek,
-        Cause::Turns | Cause::Calls => Sought::Loop,
+        Cause::Turns => Sought::Turn,
+        Cause::Calls => Sought::Call,
     }
 }
 

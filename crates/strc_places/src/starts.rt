@@ -1,4 +1,5 @@
-// Where a filter faults before it runs: in the initialiser of a field, or in `init`.
+// Where a filter faults before it runs: in the initialiser of a field, in `init`, or in a helper
+// function that is called there.
 
 use crate::composites::child_added;
 use crate::known::Known;
