@@ -28,11 +28,10 @@ argument_more looked before after whole x rest all more is left =
     one_more before after whole (expression_count looked x) (arguments_count looked rest)
     (arguments_count looked all) more (ap (arguments_count looked) is) left
 
--- what is met of a call, after its arguments
-pub call_more : (before passed called turned arguments calls turns : ℕ)
-    → passed ≡ before + arguments → called ≡ passed + calls → turned ≡ called + turns
-    → turned ≡ before + (arguments + calls + turns)
-call_more before passed called turned arguments calls turns first second third = omega arith
+-- a call, after its arguments
+pub call_more : (before passed called arguments calls turns : ℕ) → passed ≡ before + arguments
+    → called ≡ passed + (calls + turns) → called ≡ before + (arguments + calls + turns)
+call_more before passed called arguments calls turns first second = omega arith
 
 -- one more variable of a declaration
 pub variable_more : (looked : Sought) (before after whole : ℕ) (x : tree.Variable)

@@ -6,6 +6,7 @@ ghost use Rattle.std.specs.Option.{option_map};
 ghost use Rattle.strc_syntax.specs.View.{expr_view, stmt_view, block_view, variable_view};
 ghost use Rattle.strc_syntax.specs.View.{listed_view, member_view};
 ghost use Rattle.strc_places.specs.Occurrences as spec;
+ghost use Rattle.strc_places.specs.declared.occurrences.Sought.TheVariants.{Call, Turn};
 
 use std::alloc::Global;
 use strc_base::memory::NoMemory;
@@ -229,8 +230,7 @@ fn walk_expression(value: &Expr, here: Option<Span>, walk: &mut Walk) -> Result<
         }
         Expr::Call(_, arguments) => {
             walk_arguments(arguments, here, walk)?;
-            walk.meet(Sought::Call, here)?;
-            walk.meet(Sought::Turn, here)
+            walk.called(here)
         }
         Expr::Element(_, index) | Expr::StepElement(_, _, index) => {
             walk_expression(index, here, walk)?;
@@ -303,6 +303,17 @@ impl Walk {
             self.found.push(here)?;
         }
         Ok(())
+    }
+
+    /// A helper function is called, which counts a turn.
+    fn called(&mut self, here: Option<Span>) -> Result<(), NoMemory>
+        ensures counts { OnOk result (length self.new.found.items
+            ≡ length self.old.found.items
+            + (spec.one self.old.sought Call + spec.one self.old.sought Turn)) }
+        ensures sought { OnOk result (self.new.sought ≡ self.old.sought) }
+    {
+        self.meet(Sought::Call, here)?;
+        self.meet(Sought::Turn, here)
     }
 
     /// A value is assigned, by an operator that may divide by it.

@@ -25,23 +25,21 @@ walk_arguments-loop-argument-preserved t c =
       sought = c.in_ok-walk_expression.ensures.sought ∙ same;
     }
 
-pub walk_expression-returns-in_ok-meet-in-Call-clause-counts :
-    goal.walk_expression-returns-in_ok-meet-in-Call-clause-counts
-walk_expression-returns-in_ok-meet-in-Call-clause-counts t c =
+pub walk_expression-returns-in_ok-walk_arguments-in-Call-clause-counts :
+    goal.walk_expression-returns-in_ok-walk_arguments-in-Call-clause-counts
+walk_expression-returns-in_ok-walk_arguments-in-Call-clause-counts t c =
     let looked = c.args.walk.now.sought in
     let before = length c.args.walk.now.found.items in
     let passed = length c.walk_arguments.new.walk.found.items in
-    let called = length c.meet-in-Call.new.self.found.items in
     let is_kept = c.in_ok-walk_arguments-in-Call.ensures.sought in
-    let is_still_kept = c.in_ok-meet-in-Call.ensures.sought ∙ is_kept in
     let same =
     ap (λ items. arguments_count looked (listed_view items) + one looked sought.Call
     + one looked sought.Turn) c.deref-in-Call.ensures.value
     ∙ ap (expression_count looked) (sym (expr_view-Call c.in-Call.field-0 c.in-Call.arguments))
     ∙ ap (λ e. expression_count looked (expr_view e)) (sym c.in-Call.is) in
-    on_ok_weaker c.meet-in-Call-2.result
-    (λ h. call_more before passed called _ _ (one looked sought.Call) (one looked sought.Turn)
+    on_ok_weaker c.called.result
+    (λ h. call_more before passed (length c.called.new.self.found.items) _
+    (one looked sought.Call) (one looked sought.Turn)
     c.in_ok-walk_arguments-in-Call.ensures.counts
-    (c.in_ok-meet-in-Call.ensures.counts ∙ ap (λ s. passed + one s sought.Call) is_kept)
-    (h ∙ ap (λ s. called + one s sought.Turn) is_still_kept)
-    ∙ ap (λ n. before + n) same) c.meet-in-Call-2.ensures.counts
+    (h ∙ ap (λ s. passed + (one s sought.Call + one s sought.Turn)) is_kept)
+    ∙ ap (λ n. before + n) same) c.called.ensures.counts
