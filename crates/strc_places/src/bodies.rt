@@ -39,8 +39,8 @@ pub fn uncounted_statement(alloc: Global, code: &Code) -> Result<Option<Span>, N
     Ok(None)
 }
 
-/// The statement that faults in a firing, where no other one of its body or of a helper function can
-/// for this cause.
+/// The statement that faults in a firing, where no other one of its body or of a helper function
+/// can for this cause.
 pub fn faulting_statement(
     alloc: Global,
     code: &Code,

@@ -55,8 +55,8 @@ pub fn occurrences(
     Ok(found)
 }
 
-/// Of each occurrence in a body, and then in the helper functions among the filter's members, any of
-/// which the body may call, the statement that it is in.
+/// Of each occurrence in a body, and then in the helper functions among the filter's members, any
+/// of which the body may call, the statement that it is in.
 pub fn occurrences_in_firing(
     alloc: Global,
     members: &[Member],
