@@ -1,7 +1,9 @@
 // Places in the bodies of a filter.
 
 use crate::counted::uncounted;
-use crate::occurrences::{Sought, occurrences, occurrences_in_firing, single, sought_for};
+use crate::occurrences::{
+    Sought, nested_calls, occurrences, occurrences_in_firing, single, sought_for,
+};
 use std::alloc::Global;
 use strc_base::memory::NoMemory;
 use strc_base::place::Span;
@@ -47,10 +49,11 @@ pub fn faulting_statement(
     body: Body,
     cause: Cause,
 ) -> Result<Option<Span>, NoMemory> {
+    let members = &code.tree().members;
     match cause {
         Cause::PeekRange => open_peek(alloc, code, body),
+        Cause::Calls => Ok(single(&nested_calls(alloc, members)?)),
         _ => {
-            let members = &code.tree().members;
             let found = occurrences_in_firing(alloc, members, code.block(body), sought_for(cause))?;
             Ok(single(&found))
         }

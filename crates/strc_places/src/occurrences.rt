@@ -78,6 +78,16 @@ pub fn occurrences_in_firing(
     Ok(found)
 }
 
+/// Of each call in the helper functions among a filter's members the statement that it is in. Only
+/// such a call can be one too many at once: one of a body or of what a filter starts with is the
+/// first that runs.
+pub fn nested_calls(alloc: Global, members: &[Member]) -> Result<Vec<Option<Span>>, NoMemory>
+    ensures { IfOk result (λ found. length found.items
+        ≡ spec.helpers_count Call (map member_view members.now)) }
+{
+    occurrences_in_firing(alloc, members, &[], Sought::Call)
+}
+
 /// Of each occurrence in what a filter starts with the statement that it is in: the initialisers of
 /// its fields, `init`, and the helper functions, any of which may be called there.
 pub fn occurrences_at_start(

@@ -3,7 +3,7 @@
 
 use crate::composites::child_added;
 use crate::known::Known;
-use crate::occurrences::{occurrences_at_start, single, sought_for};
+use crate::occurrences::{nested_calls, occurrences_at_start, single, sought_for};
 use crate::operators::faulting_part;
 use strc_base::memory::NoMemory;
 use strc_base::place::Span;
@@ -21,7 +21,10 @@ pub fn faulting_start(
     let Some(members) = members_at(known, filter) else {
         return Ok(None);
     };
-    let found = occurrences_at_start(known.alloc, members, sought_for(cause))?;
+    let found = match cause {
+        Cause::Calls => nested_calls(known.alloc, members)?,
+        _ => occurrences_at_start(known.alloc, members, sought_for(cause))?,
+    };
     match single(&found) {
         Some(statement) => Ok(Some(faulting_part(known.source, statement, cause))),
         None => Ok(None),
