@@ -150,7 +150,7 @@ fn cause_words(cause: Cause) -> &'static [u8] {
         Cause::DivZero => b" divides by zero",
         Cause::Index => b" uses an index outside of its array",
         Cause::PeekRange => b" looks at an item outside of its window",
-        Cause::Turns => b" makes more than 1,000,000 turns of loops",
+        Cause::Turns => b" makes more than 1,000,000 turns of loops and calls",
         Cause::Calls => b" has more than 64 calls running at once",
     }
 }
