@@ -132,7 +132,8 @@ impl Code {
             ≡ limits_of (filters.body_rates bodied.Work (filters.filter_of tree).members) }
         requires helpers { AreHelpers (lowering.field_scope (filters.filter_of tree))
             (filters.filter_of tree).members helpers.items }
-        requires start_linked { IsLinked (helper_names (filters.filter_of tree).members) start.flat }
+        requires start_linked { IsLinked (helper_names (filters.filter_of tree).members)
+            start.flat }
         requires prework_linked { IsLinked (helper_names (filters.filter_of tree).members)
             (first_routine prework work).flat }
         requires work_linked { IsLinked (helper_names (filters.filter_of tree).members) work.flat }
