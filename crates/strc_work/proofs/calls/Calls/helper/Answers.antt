@@ -1,7 +1,7 @@
 use Rattle.std.proofs.Common.{◌≡◌, Some, None, subst, sym, ap, ◌∙◌}
 use Rattle.strc_code.specs.Links.{place_of}
-use Rattle.strc_work.specs.Calls.{Callable, IsFound, IsRefused, code_named, names_in}
-use Rattle.strc_work.proofs.Found.{found_in, named_at, refused_none, refused_other}
+use Rattle.strc_work.specs.Calls.{Callable, IsFound, IsRefused, names_in}
+use Rattle.strc_work.proofs.Found.{code_named, found_in, named_at, refused_none, refused_other}
 use Rattle.strc_work.proofs.calls.Calls.helper.Goals as goal
 
 pub returns-in_err-helper-clause-none : goal.returns-in_err-helper-clause-none
