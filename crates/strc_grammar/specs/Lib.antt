@@ -5,3 +5,4 @@ pub mod Sentences
 pub mod Seen
 pub mod Readers
 pub mod Part
+pub mod Places

@@ -1,12 +1,17 @@
 // Where in the text is what a rule read.
 
+ghost use Rattle.std.specs.Prelude.{◌≡◌};
+ghost use Rattle.strc_grammar.specs.Places as spec;
+
 use strc_base::place::Span;
 use strc_lex::token::Token;
 
 /// The place from the first of these tokens up to the last one before those that follow it.
-pub fn span_of(tokens: &[Token], rest: &[Token]) -> Span {
-    let count = tokens.len().saturating_sub(rest.len());
-    match (tokens.first(), tokens.get(count.saturating_sub(1))) {
+pub fn span_of(tokens: &[Token], rest: &[Token]) -> Span
+    ensures { result ≡ spec.span_of (spec.before tokens.now rest.now) }
+{
+    let read = &tokens[..tokens.len().saturating_sub(rest.len())];
+    match (read.first(), read.last()) {
         (Some(first), Some(last)) => Span {
             start: first.span.start,
             end: last.span.end,

@@ -1,6 +1,8 @@
 // What a person reads of a run that ends early, or that isn't run.
 
-ghost use Rattle.std.specs.Prelude.{[], codes, IfOk};
+ghost use Rattle.std.specs.Prelude.{[], codes, IfOk, slice_get};
+ghost use Rattle.strc_places.specs.Nodes.{MarksName};
+ghost use Rattle.strc_places.specs.Refused.{MarksFaultOf};
 ghost use Rattle.strc_source.specs.Messages.{IsMessage};
 
 use crate::refusal::tokens_of;
@@ -12,6 +14,7 @@ use strc_graph::instance::Instance;
 use strc_lex::token::Keyword;
 use strc_places::bodies::faulting_statement;
 use strc_places::operators::faulting_part;
+use strc_places::spelling::spelled_or_first;
 use strc_refusal::outcome::Round;
 use strc_refusal::run_refusal::RunRefusal;
 use strc_semantics::body::Body;
@@ -83,7 +86,10 @@ fn place_of_fault(
     source: Source<'_>,
     graph: &Graph,
     fault: FaultSite,
-) -> Result<Option<Span>, NoMemory> {
+) -> Result<Option<Span>, NoMemory>
+    ensures { IfOk result (MarksFaultOf source.entry.text.now source.entry.tokens.now fault.cause
+        (slice_get graph.now.nodes fault.node)) }
+{
     let Some(Node::Filter(instance)) = graph.nodes().get(fault.node as usize) else {
         return Ok(None);
     };
@@ -99,9 +105,11 @@ fn place_of_fault(
 }
 
 /// The name by which a filter is declared, or else the statement that adds it.
-fn place_of_filter(source: Source<'_>, instance: &Instance) -> Option<Span> {
+fn place_of_filter(source: Source<'_>, instance: &Instance) -> Option<Span>
+    ensures { MarksName source.entry.text.now source.entry.tokens.now instance.now.name result }
+{
     match &instance.name {
-        Some(name) => name.place(),
+        Some(name) => spelled_or_first(source, name.place(), name.as_bytes()),
         None => heading_before(source, first_place(instance.code.tree())?.start),
     }
 }

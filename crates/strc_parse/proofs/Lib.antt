@@ -1,3 +1,4 @@
 pub mod RateViews
 pub mod Spelling
 pub mod Grown
+pub mod Placed

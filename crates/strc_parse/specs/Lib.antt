@@ -1,5 +1,6 @@
 pub mod Seen
 pub mod Readers
 pub mod Parts
+pub mod Placed
 pub mod Texts
 pub mod Kept

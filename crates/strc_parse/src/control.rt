@@ -1,13 +1,14 @@
 // Statements with others in them. The rules of a depth are made of the reader of the depth below,
 // which they take as a value, so that each is proved by itself.
 
-ghost use Rattle.std.specs.Prelude.{◌≡◌, ◌-◌, ◌<◌, max, map};
+ghost use Rattle.std.specs.Prelude.{◌≡◌, ◌-◌, ◌<◌, max, map, IfOk};
 ghost use Rattle.strc_syntax.specs.View.{expr_view, stmt_view, member_view};
 ghost use Rattle.strc_grammar.specs.Grammar.{kinds};
 ghost use Rattle.strc_grammar.specs.Seen.{parsed, parsed_all};
 ghost use Rattle.strc_grammar.specs.Streams as spec;
 ghost use Rattle.strc_grammar.specs.Reading as reading;
 ghost use Rattle.strc_grammar.specs.Reading.{Gives};
+ghost use Rattle.strc_parse.specs.Placed.{IsSpelledAtItsPlace};
 ghost use Rattle.strc_parse.specs.Readers.{ReadsStatements};
 
 use crate::kept::{node_of, node_of_three, node_of_two, with_next, with_node_height};
@@ -86,12 +87,14 @@ pub(crate) fn members(
 
 impl<F: Fn(Global, usize, &[Token]) -> Result<Parsed<'_, Stmt>, ReadError>> StatementRules<F> {
     /// A statement one depth below, with its place in the text.
+    #[tactic(auto, using(crate::proofs::Placed::spelled_at_its_place))]
     fn below<'t>(&self, tokens: &'t [Token]) -> Result<Parsed<'t, Stmt>, ReadError>
         requires deep { 0 < self.now.depth }
         requires reads { ReadsStatements (self.now.depth - 1)
             (F.pre self.now.reader) (F.post self.now.reader) }
-        ensures { Gives (parsed stmt_view) result
+        ensures gives { Gives (parsed stmt_view) result
             (spec.statement (self.now.depth - 1) (kinds tokens.now)) }
+        ensures placed { IfOk result (IsSpelledAtItsPlace tokens.now) }
     {
         let read = (self.reader)(self.alloc, self.depth - 1, tokens)?;
         placed(self.alloc, tokens, read)

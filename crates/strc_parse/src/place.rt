@@ -4,6 +4,7 @@ ghost use Rattle.std.specs.Prelude.{IfOk, IfErr, ◌≡◌};
 ghost use Rattle.strc_syntax.specs.View.{stmt_view};
 ghost use Rattle.strc_grammar.specs.Seen.{parsed};
 ghost use Rattle.strc_grammar.specs.declared.error.ReadError.TheVariants.{Memory};
+ghost use Rattle.strc_parse.specs.Placed.{IsPlaced};
 
 use std::alloc::Global;
 use strc_grammar::ReadError;
@@ -21,6 +22,7 @@ pub(crate) fn placed<'t>(
     read: Parsed<'t, Stmt>,
 ) -> Result<Parsed<'t, Stmt>, ReadError>
     ensures same { IfOk result (λ r. parsed stmt_view r ≡ parsed stmt_view read.entry) }
+    ensures placed { IfOk result (IsPlaced tokens.now) }
     ensures memory { IfErr result (λ e. e ≡ Memory) }
 {
     if let Stmt::Empty = &read.value {

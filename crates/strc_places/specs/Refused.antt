@@ -1,5 +1,6 @@
--- Which rates of a filter break a rule, and what is marked for one that does.
-use Rattle.std.specs.Prelude.{◌≡◌, ℕ, ℤ, pos, Bool, true, false, not, ◌&&◌, ◌||◌, List, []}
+-- Which rates of a filter break a rule, and what is marked for one that does; which refusals are
+-- about a statement, and what is marked for a fault before the program runs.
+use Rattle.std.specs.Prelude.{◌≡◌, ◌⊎◌, ℕ, ℤ, pos, Bool, true, false, not, ◌&&◌, ◌||◌, List, []}
 use Rattle.std.specs.Prelude.{Option, Some, None, IfSome, slice_get}
 use Rattle.std.specs.Ordering.{int_eq}
 use Rattle.strc_base.specs.declared.place.Span.{Span}
@@ -19,8 +20,16 @@ use Rattle.strc_rate.specs.Rates.{within_limit, has_items}
 use Rattle.strc_graph.specs.declared.graph.Node.{Node}
 use Rattle.strc_graph.specs.declared.graph.Node.TheVariants as node
 use Rattle.strc_graph.specs.NodeView.{GraphParts}
+use Rattle.strc_check.specs.declared.site.Mismatch.{Mismatch}
+use Rattle.strc_check.specs.declared.site.Mismatch.TheVariants as mismatch
+use Rattle.strc_refusal.specs.declared.refusal.Refusal.{Refusal}
+use Rattle.strc_refusal.specs.declared.refusal.Refusal.TheVariants as refusal
+use Rattle.strc_semantics.specs.declared.fault.Cause.{Cause}
+use Rattle.strc_source.specs.Headings.{heading}
 use Rattle.strc_places.specs.declared.moved.Moved.{Moved}
 use Rattle.strc_places.specs.Keywords.{declared_keyword}
+use Rattle.strc_places.specs.Nodes.{MarksName}
+use Rattle.strc_places.specs.Operators.{faulting_part}
 use Rattle.strc_places.specs.Spelling.{MarksFrom}
 
 -- the declared rate of a kind: a missing one is 0, and a missing peek rate is the pop rate
@@ -92,3 +101,42 @@ abbrev pub MarksNode : List ℕ → List Token → Option GraphParts → ℕ
     → (Filter → RateKind → Body → Bool) → Option Span → Type 0
 MarksNode text tokens graph number breaks place = IfSome (filter_at graph number)
     (λ filter. MarksRate text tokens filter (breaks filter) place)
+
+-- a refusal of a type, a kind or a part, of arguments or of weights
+abbrev pub is_of_statement : Refusal → Bool
+is_of_statement (refusal.TypeMismatch stream) = true
+is_of_statement (refusal.BadArguments stream) = true
+is_of_statement (refusal.BadWeights stream) = true
+is_of_statement _ = false
+
+-- too many nodes, or too many levels
+abbrev pub is_limit : Refusal → Bool
+is_limit refusal.NodeLimit = true
+is_limit refusal.DepthLimit = true
+is_limit _ = false
+
+-- a stream lacks a part
+abbrev pub lacks_part : Option Mismatch → Bool
+lacks_part (Some (mismatch.Missing kind part)) = true
+lacks_part _ = false
+
+-- the part of a statement that faults is marked
+abbrev pub IsFaultingPart : List Token → Cause → Option Span → Type 0
+IsFaultingPart tokens cause place =
+    (statement : Span) × (place ≡ Some (faulting_part tokens cause statement))
+
+-- what is marked of a fault before the program runs, at a site with this place
+abbrev pub MarksFault : List Token → Cause → (at : Span) → Option Span → Type 0
+MarksFault tokens cause at place =
+    IsFaultingPart tokens cause place ⊎ (place ≡ Some (heading at tokens))
+
+-- the name by which the filter of a node is declared
+abbrev pub filter_name : Option Node → Option (List ℕ)
+filter_name (Some (node.Filter instance)) = instance.name
+filter_name _ = None
+
+-- what is marked of a fault in a firing of a node: the operator or the heading of a statement, or
+-- the name of its filter
+abbrev pub MarksFaultOf : List ℕ → List Token → Cause → Option Node → Option Span → Type 0
+MarksFaultOf text tokens cause faulting place = IsFaultingPart tokens cause place
+    ⊎ MarksName text tokens (filter_name faulting) place

@@ -1,11 +1,13 @@
 // Takes why a text is refused, or how its run faulted, and what is known of it: stream and graph.
 // Gives the part of the text that it is about: a statement, a rate, a name, an operator.
-// The theorem to rely on: `occurrences`, `occurrences_in_firing` and `occurrences_at_start` find as
-// many places as there are parts of a filter's text that can fault so, the latter two also those in
-// its helper functions; `place_of_refusal` marks an undeclared name, the name of a main stream that
-// is asked for, a feedback loop whose nodes wait, a rate that breaks a rule and a stream that lacks
-// a part where the text spells them, unless no token does. Which other part is marked is tested by
-// whole messages.
+// The theorems to rely on: `occurrences`, `occurrences_in_firing` and `occurrences_at_start` find,
+// of each part of a filter's text that can fault so, in order, the innermost statement around it,
+// the latter two also in its helper functions; `single` gives a place only where all begin there;
+// `place_of_refusal` marks an undeclared name, the name of a main stream that is asked for, of a
+// node at a channel, a feedback loop whose nodes wait, a rate that breaks a rule and a stream that
+// lacks a part where the text spells them, unless no token does; of a statement that is refused its
+// heading, and of one that faults the one operator that can (`faulting_part`). Which statement is
+// refused is tested by whole messages.
 // Stands on strc_source, which knows the text's tokens and the stream's nodes, on strc_refusal,
 // whose refusals these are, on strc_statements, which says what can be the main stream, on
 // strc_stream, strc_graph and strc_code, whose filters know their text, on strc_rate and

@@ -1,11 +1,17 @@
 // The statements in which something occurs that can fault: those of a body, of the helper functions
 // that it may call, and of what a filter starts with, in order of the text.
 
-ghost use Rattle.std.specs.Prelude.{◌≡◌, ◌+◌, IfOk, OnOk, length, map};
+ghost use Rattle.std.specs.Prelude.{◌≡◌, ◌+◌, ◌++◌, IfOk, IfSome, IfNone, OnOk, None, map};
+ghost use Rattle.std.specs.Prelude.{replicate};
 ghost use Rattle.std.specs.Option.{option_map};
-ghost use Rattle.strc_syntax.specs.View.{expr_view, stmt_view, block_view, variable_view};
-ghost use Rattle.strc_syntax.specs.View.{listed_view, member_view};
+ghost use Rattle.strc_base.specs.declared.place.Span.{Span};
+ghost use Rattle.strc_syntax.specs.View.{expr_view, variable_view, listed_view};
 ghost use Rattle.strc_places.specs.Occurrences as spec;
+ghost use Rattle.strc_places.specs.OccurrencePlaces.{stmt_places, block_places, member_places};
+ghost use Rattle.strc_places.specs.OccurrencePlaces.{start_places, helper_places, helpers_places};
+ghost use Rattle.strc_places.specs.OccurrencePlaces.{IsSingle, BlockPlacesAreCounted};
+ghost use Rattle.strc_places.specs.OccurrencePlaces.{StartPlacesAreCounted};
+ghost use Rattle.strc_places.specs.OccurrencePlaces.{HelpersPlacesAreCounted};
 ghost use Rattle.strc_places.specs.declared.occurrences.Sought.TheVariants.{Call, Turn};
 
 use std::alloc::Global;
@@ -43,8 +49,7 @@ pub fn occurrences(
     block: &[Stmt],
     sought: Sought,
 ) -> Result<Vec<Option<Span>>, NoMemory>
-    ensures { IfOk result (λ found. length found.items
-        ≡ spec.row_count sought (block_view block.now)) }
+    ensures { IfOk result (λ found. found.items ≡ block_places sought None block.now) }
 {
     let mut walk = Walk {
         sought,
@@ -63,9 +68,8 @@ pub fn occurrences_in_firing(
     block: &[Stmt],
     sought: Sought,
 ) -> Result<Vec<Option<Span>>, NoMemory>
-    ensures { IfOk result (λ found. length found.items
-        ≡ spec.row_count sought (block_view block.now)
-        + spec.helpers_count sought (map member_view members.now)) }
+    ensures { IfOk result (λ found. found.items ≡ block_places sought None block.now
+        ++ helpers_places sought members.now) }
 {
     let mut walk = Walk {
         sought,
@@ -82,8 +86,7 @@ pub fn occurrences_in_firing(
 /// such a call can be one too many at once: one of a body or of what a filter starts with is the
 /// first that runs.
 pub fn nested_calls(alloc: Global, members: &[Member]) -> Result<Vec<Option<Span>>, NoMemory>
-    ensures { IfOk result (λ found. length found.items
-        ≡ spec.helpers_count Call (map member_view members.now)) }
+    ensures { IfOk result (λ found. found.items ≡ helpers_places Call members.now) }
 {
     occurrences_in_firing(alloc, members, &[], Sought::Call)
 }
@@ -95,8 +98,7 @@ pub fn occurrences_at_start(
     members: &[Member],
     sought: Sought,
 ) -> Result<Vec<Option<Span>>, NoMemory>
-    ensures { IfOk result (λ found. length found.items
-        ≡ spec.start_count sought (map member_view members.now)) }
+    ensures { IfOk result (λ found. found.items ≡ start_places sought members.now) }
 {
     let mut walk = Walk {
         sought,
@@ -109,10 +111,16 @@ pub fn occurrences_at_start(
     Ok(found)
 }
 
+/// There are as many places as occurrences.
+pub fn places_are_counted()
+    ensures block { BlockPlacesAreCounted }
+    ensures start { StartPlacesAreCounted }
+    ensures helpers { HelpersPlacesAreCounted }
+{}
+
 fn walk_member(member: &Member, walk: &mut Walk) -> Result<(), NoMemory>
-    ensures counts { OnOk result (length walk.new.found.items
-        ≡ length walk.old.found.items
-        + spec.member_count walk.old.sought (member_view member.now)) }
+    ensures marks { OnOk result (walk.new.found.items ≡ walk.old.found.items
+        ++ member_places walk.old.sought member.now) }
     ensures sought { OnOk result (walk.new.sought ≡ walk.old.sought) }
 {
     match member {
@@ -124,9 +132,8 @@ fn walk_member(member: &Member, walk: &mut Walk) -> Result<(), NoMemory>
 }
 
 fn walk_helper(member: &Member, walk: &mut Walk) -> Result<(), NoMemory>
-    ensures counts { OnOk result (length walk.new.found.items
-        ≡ length walk.old.found.items
-        + spec.helper_count walk.old.sought (member_view member.now)) }
+    ensures marks { OnOk result (walk.new.found.items ≡ walk.old.found.items
+        ++ helper_places walk.old.sought member.now) }
     ensures sought { OnOk result (walk.new.sought ≡ walk.old.sought) }
 {
     match member {
@@ -137,8 +144,8 @@ fn walk_helper(member: &Member, walk: &mut Walk) -> Result<(), NoMemory>
 
 #[cycle(statement)]
 fn walk_block(block: &[Stmt], here: Option<Span>, walk: &mut Walk) -> Result<(), NoMemory>
-    ensures counts { OnOk result (length walk.new.found.items
-        ≡ length walk.old.found.items + spec.row_count walk.old.sought (block_view block.now)) }
+    ensures marks { OnOk result (walk.new.found.items ≡ walk.old.found.items
+        ++ block_places walk.old.sought here block.now) }
     ensures sought { OnOk result (walk.new.sought ≡ walk.old.sought) }
 {
     for statement in block {
@@ -149,8 +156,8 @@ fn walk_block(block: &[Stmt], here: Option<Span>, walk: &mut Walk) -> Result<(),
 
 #[cycle(statement)]
 fn walk_statement(statement: &Stmt, here: Option<Span>, walk: &mut Walk) -> Result<(), NoMemory>
-    ensures counts { OnOk result (length walk.new.found.items
-        ≡ length walk.old.found.items + spec.stmt_count walk.old.sought (stmt_view statement.now)) }
+    ensures marks { OnOk result (walk.new.found.items ≡ walk.old.found.items
+        ++ stmt_places walk.old.sought here statement.now) }
     ensures sought { OnOk result (walk.new.sought ≡ walk.old.sought) }
 {
     match statement {
@@ -201,9 +208,9 @@ fn walk_variables(
     here: Option<Span>,
     walk: &mut Walk,
 ) -> Result<(), NoMemory>
-    ensures counts { OnOk result (length walk.new.found.items
-        ≡ length walk.old.found.items + spec.variables_count walk.old.sought
-        (map variable_view variables.now)) }
+    ensures marks { OnOk result (walk.new.found.items ≡ walk.old.found.items
+        ++ replicate (spec.variables_count walk.old.sought (map variable_view variables.now))
+        here) }
     ensures sought { OnOk result (walk.new.sought ≡ walk.old.sought) }
 {
     for variable in variables {
@@ -213,9 +220,8 @@ fn walk_variables(
 }
 
 fn walk_option(value: &Option<Expr>, here: Option<Span>, walk: &mut Walk) -> Result<(), NoMemory>
-    ensures counts { OnOk result (length walk.new.found.items
-        ≡ length walk.old.found.items + spec.option_count walk.old.sought
-        (option_map expr_view value.now)) }
+    ensures marks { OnOk result (walk.new.found.items ≡ walk.old.found.items
+        ++ replicate (spec.option_count walk.old.sought (option_map expr_view value.now)) here) }
     ensures sought { OnOk result (walk.new.sought ≡ walk.old.sought) }
 {
     match value {
@@ -226,9 +232,8 @@ fn walk_option(value: &Option<Expr>, here: Option<Span>, walk: &mut Walk) -> Res
 
 #[cycle(expression)]
 fn walk_expression(value: &Expr, here: Option<Span>, walk: &mut Walk) -> Result<(), NoMemory>
-    ensures counts { OnOk result (length walk.new.found.items
-        ≡ length walk.old.found.items + spec.expression_count walk.old.sought
-        (expr_view value.now)) }
+    ensures marks { OnOk result (walk.new.found.items ≡ walk.old.found.items
+        ++ replicate (spec.expression_count walk.old.sought (expr_view value.now)) here) }
     ensures sought { OnOk result (walk.new.sought ≡ walk.old.sought) }
 {
     match value {
@@ -264,9 +269,8 @@ fn walk_expression(value: &Expr, here: Option<Span>, walk: &mut Walk) -> Result<
 
 #[cycle(expression)]
 fn walk_arguments(arguments: &[Expr], here: Option<Span>, walk: &mut Walk) -> Result<(), NoMemory>
-    ensures counts { OnOk result (length walk.new.found.items
-        ≡ length walk.old.found.items + spec.arguments_count walk.old.sought
-        (listed_view arguments.now)) }
+    ensures marks { OnOk result (walk.new.found.items ≡ walk.old.found.items
+        ++ replicate (spec.arguments_count walk.old.sought (listed_view arguments.now)) here) }
     ensures sought { OnOk result (walk.new.sought ≡ walk.old.sought) }
 {
     for argument in arguments {
@@ -289,7 +293,10 @@ pub fn sought_for(cause: Cause) -> Sought
 }
 
 /// The place that all these are.
-pub fn single(places: &[Option<Span>]) -> Option<Span> {
+pub fn single(places: &[Option<Span>]) -> Option<Span>
+    ensures found { IfSome result (λ place. IsSingle places.now place) }
+    ensures none { IfNone result ((place : Span) → IsSingle places.now place → ⊥) }
+{
     let first = (*places.first()?)?;
     let is_same = |place: &Option<Span>| match place {
         Some(place) => place.start == first.start,
@@ -305,8 +312,8 @@ pub fn single(places: &[Option<Span>]) -> Option<Span> {
 impl Walk {
     /// Something occurs in a statement.
     fn meet(&mut self, occurs: Sought, here: Option<Span>) -> Result<(), NoMemory>
-        ensures counts { OnOk result (length self.new.found.items
-            ≡ length self.old.found.items + spec.one self.old.sought occurs) }
+        ensures marks { OnOk result (self.new.found.items ≡ self.old.found.items
+            ++ replicate (spec.one self.old.sought occurs) here) }
         ensures sought { OnOk result (self.new.sought ≡ self.old.sought) }
     {
         if self.sought == occurs {
@@ -317,9 +324,8 @@ impl Walk {
 
     /// A helper function is called, which counts a turn.
     fn called(&mut self, here: Option<Span>) -> Result<(), NoMemory>
-        ensures counts { OnOk result (length self.new.found.items
-            ≡ length self.old.found.items
-            + (spec.one self.old.sought Call + spec.one self.old.sought Turn)) }
+        ensures marks { OnOk result (self.new.found.items ≡ self.old.found.items
+            ++ replicate (spec.one self.old.sought Call + spec.one self.old.sought Turn) here) }
         ensures sought { OnOk result (self.new.sought ≡ self.old.sought) }
     {
         self.meet(Sought::Call, here)?;
@@ -333,9 +339,9 @@ impl Walk {
         value: &Expr,
         here: Option<Span>,
     ) -> Result<(), NoMemory>
-        ensures counts { OnOk result (length self.new.found.items
-            ≡ length self.old.found.items + spec.division self.old.sought
-            (spec.assigns_quotient operator) (expr_view value.now)) }
+        ensures marks { OnOk result (self.new.found.items ≡ self.old.found.items
+            ++ replicate (spec.division self.old.sought (spec.assigns_quotient operator)
+            (expr_view value.now)) here) }
         ensures sought { OnOk result (self.new.sought ≡ self.old.sought) }
     {
         match operator {

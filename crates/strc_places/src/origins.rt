@@ -1,16 +1,22 @@
 // Where the nodes and the channels of a program come from.
 
-ghost use Rattle.std.specs.Prelude.{◌≡◌};
+ghost use Rattle.std.specs.Prelude.{◌≡◌, IfSome, None};
 ghost use Rattle.std.specs.Option.{option_map};
+ghost use Rattle.strc_places.specs.Nodes as nodes;
 ghost use Rattle.strc_places.specs.Parts as spec;
 
 use crate::composites::part_statement;
 use crate::known::Known;
+use crate::spelling::spelled_or_first;
 use strc_base::place::Span;
 use strc_source::preorder::Origin;
 
 /// The declaration of a node's filter, or else the statement that the node comes from.
-pub fn place_of_node(known: Known<'_>, node: usize) -> Option<Span> {
+#[tactic(auto, using(crate::proofs::Naming::marks_still))]
+pub fn place_of_node(known: Known<'_>, node: usize) -> Option<Span>
+    ensures { nodes.MarksName known.entry.source.text.now known.entry.source.tokens.now
+        (nodes.declared_name (option_map (λ n. n.now) known.entry.nodes) node) result }
+{
     match declaration_of(known, node) {
         Some(place) => Some(place),
         None => statement_of(known, node),
@@ -18,7 +24,9 @@ pub fn place_of_node(known: Known<'_>, node: usize) -> Option<Span> {
 }
 
 /// The statement that a node comes from.
-pub fn statement_of(known: Known<'_>, node: usize) -> Option<Span> {
+pub fn statement_of(known: Known<'_>, node: usize) -> Option<Span>
+    ensures { IfSome result (λ place. nodes.IsHeading known.entry.source.tokens.now (Some place)) }
+{
     let origin = origin_of(known, node)?;
     let place = match origin.part {
         Some(part) => part_statement(known, origin.added, part)?,
@@ -28,8 +36,15 @@ pub fn statement_of(known: Known<'_>, node: usize) -> Option<Span> {
 }
 
 /// The name by which a node's filter is declared.
-fn declaration_of(known: Known<'_>, node: usize) -> Option<Span> {
-    origin_of(known, node)?.declared
+fn declaration_of(known: Known<'_>, node: usize) -> Option<Span>
+    ensures named { nodes.MarksName known.entry.source.text.now known.entry.source.tokens.now
+        (nodes.declared_name (option_map (λ n. n.now) known.entry.nodes) node) result }
+    ensures unnamed { nodes.declared_name (option_map (λ n. n.now) known.entry.nodes) node ≡ None
+        → result ≡ None }
+{
+    let seen = known.nodes?.nodes.get(node)?;
+    let declared = seen.origin.declared?;
+    spelled_or_first(known.source, Some(declared), &seen.name)
 }
 
 fn origin_of(known: Known<'_>, node: usize) -> Option<Origin> {
@@ -38,7 +53,12 @@ fn origin_of(known: Known<'_>, node: usize) -> Option<Origin> {
 
 /// The declaration of the filter at a channel's source, or else of that at its target, or the
 /// statement that one of them comes from.
-pub fn place_of_channel(known: Known<'_>, channel: usize) -> Option<Span> {
+#[tactic(auto, using(crate::proofs::Naming::source_marked, crate::proofs::Naming::target_marked))]
+pub fn place_of_channel(known: Known<'_>, channel: usize) -> Option<Span>
+    ensures { nodes.MarksChannel known.entry.source.text.now known.entry.source.tokens.now
+        (option_map (λ n. n.now) known.entry.nodes)
+        (spec.ends_of (option_map (λ g. g.now) known.entry.graph) channel) result }
+{
     let (from, to) = ends_of(known, channel)?;
     if let Some(place) = declaration_of(known, from) {
         return Some(place);

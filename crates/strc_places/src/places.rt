@@ -1,15 +1,18 @@
 // Which part of a text a refusal is about.
 
-ghost use Rattle.std.specs.Prelude.{◌≡◌, ◌⊎◌, Bool, IfOk, IfSome, List, Some, ℕ};
+ghost use Rattle.std.specs.Prelude.{◌≡◌, ◌⊎◌, Bool, IfOk, IfSome, List, Some, true, false, ℕ};
 ghost use Rattle.std.specs.Option.{option_map};
 ghost use Rattle.strc_lex.specs.KeywordTexts.{keyword_text};
 ghost use Rattle.strc_lex.specs.declared.token.Keyword.TheVariants as keyword;
 ghost use Rattle.strc_base.specs.declared.place.Span.{Span};
+ghost use Rattle.strc_semantics.specs.declared.fault.Cause.{Cause};
 ghost use Rattle.strc_syntax.specs.declared.tree.CompositeKind.{CompositeKind};
 ghost use Rattle.strc_semantics.specs.Filters.{filter_of};
 ghost use Rattle.strc_check.specs.declared.site.Part.{Part};
 ghost use Rattle.strc_check.specs.declared.site.Mismatch.TheVariants as mismatched;
+ghost use Rattle.strc_source.specs.Headings.{heading};
 ghost use Rattle.strc_places.specs.Keywords as keywords;
+ghost use Rattle.strc_places.specs.Nodes as nodes;
 ghost use Rattle.strc_places.specs.Parts as parts;
 ghost use Rattle.strc_places.specs.Refused as refused;
 ghost use Rattle.strc_places.specs.Spelling as spelling;
@@ -72,6 +75,36 @@ pub fn place_of_refusal(
         → site.mismatch ≡ Some (mismatched.Missing kind part) → site.place ≡ Some at
         → IfOk result (λ place. spelling.MarksFrom known.entry.source.text.now
         known.entry.source.tokens.now (keyword_text (keywords.kind_keyword kind)) place) }
+    // Of what can't be counted, and of a peek outside of its window, the heading of a statement is
+    // marked, or the name of its filter.
+    ensures uncounted { (node : ℕ) → refusal.now ≡ refused_for.RateUnknown node
+        → IfOk result (nodes.MarksInNode known.entry.source.text.now
+        known.entry.source.tokens.now (option_map (λ n. n.now) known.entry.nodes) node) }
+    ensures outside { (node : ℕ) → refusal.now ≡ refused_for.PeekOutside node
+        → IfOk result (nodes.MarksInNode known.entry.source.text.now
+        known.entry.source.tokens.now (option_map (λ n. n.now) known.entry.nodes) node) }
+    // Of a channel the name of the filter at its source is marked where it is written, or else that
+    // of the one at its target.
+    ensures inconsistent { (channel : ℕ) → refusal.now ≡ refused_for.Inconsistent channel
+        → IfOk result (nodes.MarksChannel known.entry.source.text.now
+        known.entry.source.tokens.now (option_map (λ n. n.now) known.entry.nodes)
+        (parts.ends_of (option_map (λ g. g.now) known.entry.graph) channel)) }
+    ensures buffer { (channel : ℕ) → refusal.now ≡ refused_for.BufferLimit channel
+        → IfOk result (nodes.MarksChannel known.entry.source.text.now
+        known.entry.source.tokens.now (option_map (λ n. n.now) known.entry.nodes)
+        (parts.ends_of (option_map (λ g. g.now) known.entry.graph) channel)) }
+    // Of a statement that breaks a rule its heading is marked.
+    ensures statement { (at : Span) → refused.is_of_statement refusal.now ≡ true
+        → refused.lacks_part site.mismatch ≡ false → site.place ≡ Some at
+        → IfOk result (λ place. place ≡ Some (heading at known.entry.source.tokens.now)) }
+    // Where a stream adds too many nodes or levels, the heading of a statement is marked.
+    ensures levels { (at : Span) → refused.is_limit refusal.now ≡ true
+        → refused.lacks_part site.mismatch ≡ false → site.place ≡ Some at
+        → IfOk result (nodes.IsHeading known.entry.source.tokens.now) }
+    // Of a fault before the program runs the operator or the heading of a statement is marked.
+    ensures fault { (cause : Cause) (at : Span) → refusal.now ≡ refused_for.ConstFault cause
+        → refused.lacks_part site.mismatch ≡ false → site.place ≡ Some at
+        → IfOk result (refused.MarksFault known.entry.source.tokens.now cause at) }
     // Of a main stream that is asked for and declared a place is marked where its name is written.
     ensures asked { refusal.now ≡ refused_for.NoMain → IfSome known.entry.source.main (λ name.
         IfOk result (λ place. spelling.Marks known.entry.source.text.now
@@ -142,11 +175,15 @@ fn place_of_rates(
 }
 
 /// The statement of a node's filter that a refusal is about; the filter, where it isn't known.
+#[tactic(auto, using(crate::proofs::Naming::marks_in_node))]
 fn place_in_filter(
     known: Known<'_>,
     node: usize,
     refusal: &Refusal,
-) -> Result<Option<Span>, NoMemory> {
+) -> Result<Option<Span>, NoMemory>
+    ensures { IfOk result (nodes.MarksInNode known.entry.source.text.now
+        known.entry.source.tokens.now (option_map (λ n. n.now) known.entry.nodes) node) }
+{
     let filter = place_of_node(known, node);
     let Some(code) = code_of(known, node) else {
         return Ok(filter);
@@ -159,7 +196,9 @@ fn place_in_filter(
 }
 
 /// What is marked of a statement, where there is one.
-fn heading_of(known: Known<'_>, statement: Option<Span>) -> Option<Span> {
+fn heading_of(known: Known<'_>, statement: Option<Span>) -> Option<Span>
+    ensures { result ≡ option_map (λ at. heading at known.entry.source.tokens.now) statement }
+{
     Some(known.source.heading(statement?))
 }
 
@@ -211,7 +250,10 @@ fn place_of_fault(
     refusal: &Refusal,
     site: Site,
     cause: Cause,
-) -> Result<Option<Span>, NoMemory> {
+) -> Result<Option<Span>, NoMemory>
+    ensures { (at : Span) → refused.lacks_part site.mismatch ≡ false → site.place ≡ Some at
+        → IfOk result (refused.MarksFault known.entry.source.tokens.now cause at) }
+{
     if let Some(place) = site.place {
         if let Some(start) = faulting_start(known, place, cause)? {
             return Ok(Some(start));
@@ -226,7 +268,10 @@ fn place_of_limit(
     known: Known<'_>,
     refusal: &Refusal,
     site: Site,
-) -> Result<Option<Span>, NoMemory> {
+) -> Result<Option<Span>, NoMemory>
+    ensures { (at : Span) → refused.lacks_part site.mismatch ≡ false → site.place ≡ Some at
+        → IfOk result (nodes.IsHeading known.entry.source.tokens.now) }
+{
     if let Some(place) = site.place {
         if let Some(again) = recursive_statement(known, place)? {
             return Ok(Some(known.source.heading(again)));
@@ -237,7 +282,9 @@ fn place_of_limit(
 
 /// The site of a refusal; where it has no place, the declaration or the main stream.
 fn place_of_site(known: Known<'_>, refusal: &Refusal, site: Site) -> Option<Span>
-    ensures { (kind : CompositeKind) (part : Part) (at : Span)
+    ensures statement { (at : Span) → refused.lacks_part site.mismatch ≡ false
+        → site.place ≡ Some at → result ≡ Some (heading at known.entry.source.tokens.now) }
+    ensures missing { (kind : CompositeKind) (part : Part) (at : Span)
         → site.mismatch ≡ Some (mismatched.Missing kind part) → site.place ≡ Some at
         → spelling.MarksFrom known.entry.source.text.now known.entry.source.tokens.now
         (keyword_text (keywords.kind_keyword kind)) result }

@@ -1,6 +1,9 @@
 // Where a filter faults before it runs: in the initialiser of a field, in `init`, or in a helper
 // function that is called there.
 
+ghost use Rattle.std.specs.Prelude.{◌≡◌, IfOk, IfSome, Some};
+ghost use Rattle.strc_places.specs.Refused as refused;
+
 use crate::composites::child_added;
 use crate::known::Known;
 use crate::occurrences::{nested_calls, occurrences_at_start, single, sought_for};
@@ -17,7 +20,10 @@ pub fn faulting_start(
     known: Known<'_>,
     filter: Span,
     cause: Cause,
-) -> Result<Option<Span>, NoMemory> {
+) -> Result<Option<Span>, NoMemory>
+    ensures { IfOk result (λ found. IfSome found (λ place.
+        refused.IsFaultingPart known.entry.source.tokens.now cause (Some place))) }
+{
     let Some(members) = members_at(known, filter) else {
         return Ok(None);
     };

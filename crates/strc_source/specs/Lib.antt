@@ -1,2 +1,4 @@
+pub mod Headings
 pub mod Messages
 pub mod Places
+pub mod Tokens

@@ -1,5 +1,5 @@
 -- What a person reads of a refusal or a fault: where it is, and then more.
-use Rattle.std.specs.Prelude.{◌≡◌, ℕ, List, ◌++◌, codes, decimal, length, take}
+use Rattle.std.specs.Prelude.{◌≡◌, ℕ, List, ◌++◌, codes, decimal, take}
 use Rattle.std.specs.Prelude.{Option, Some, None}
 use Rattle.strc_source.specs.Places.{IsPlace}
 use Rattle.strc_source.specs.declared.place.Place.{Place}

@@ -2,8 +2,9 @@
 // Gives what messages are built of: places by line and column, excerpts with a mark, names that are
 // near to one; and nodes in preorder with the statements they come from, their names, counts and
 // stuck loops.
-// The theorem to rely on: `place_of`: line and column are the text's; a message is its file, a
-// place where it is about one, what it says, and a line feed.
+// The theorems to rely on: `place_of`: line and column are the text's; `heading`: what is marked of
+// a statement are its tokens up to its first block or semicolon; a message is its file, a place
+// where it is about one, what it says, and a line feed.
 // Stands on strc_lex, whose tokens these are, on strc_stream and strc_graph, whose nodes, on
 // strc_balance, whose counts, and on memchr, strsim and itoa.
 #![tactic(auto)]

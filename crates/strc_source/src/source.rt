@@ -1,7 +1,10 @@
 // A program's text with its file's name and its tokens.
 
-ghost use Rattle.std.specs.Prelude.{◌≡◌, ◌-◌, take, drop, IfOk};
+ghost use Rattle.std.specs.Prelude.{◌≡◌, ◌-◌, ◌<◌, take, drop, IfOk, true};
+ghost use Rattle.strc_source.specs.Headings as spec;
+ghost use Rattle.strc_source.specs.Headings.{heading, end_from};
 ghost use Rattle.strc_source.specs.Messages.{IsMessage};
+ghost use Rattle.strc_source.specs.Tokens.{tokens_in};
 
 use crate::message::Message;
 use crate::tokens::is_mark;
@@ -55,29 +58,64 @@ impl<'a> Source<'a> {
 
     /// What is marked of a statement or a name: a statement up to its first block, or else with its
     /// first semicolon outside of brackets.
-    pub fn heading(self, place: Span) -> Span {
-        let mut depth: usize = 0;
-        let mut end = place.start;
-        for token in self.tokens {
-            if token.span.start < place.start {
-                continue;
-            }
-            let is_block = is_mark(token, Punctuation::OpenBrace) && end > place.start;
-            if is_block || token.span.end > place.end {
-                break;
-            }
-            end = token.span.end;
-            if is_mark(token, Punctuation::OpenParen) {
-                depth = depth.saturating_add(1);
-            } else if is_mark(token, Punctuation::CloseParen) {
-                depth = depth.saturating_sub(1);
-            } else if depth == 0 && is_mark(token, Punctuation::Semicolon) {
-                break;
-            }
-        }
+    pub fn heading(self, place: Span) -> Span
+        ensures { result ≡ heading place self.entry.tokens.now }
+    {
         Span {
             start: place.start,
-            end,
+            end: heading_end(self.tokens, place),
         }
+    }
+}
+
+/// Where the heading ends of what is at a place.
+fn heading_end(tokens: &[Token], place: Span) -> usize
+    ensures { result ≡ end_from true place.start 0 (tokens_in place tokens.now) }
+{
+    let mut brackets: usize = 0;
+    let mut end = place.start;
+    let mut is_first = true;
+    for token in tokens {
+        if token.span.start < place.start {
+            continue;
+        }
+        if token.span.end > place.end || begins_block(is_first, token) {
+            return end;
+        }
+        if ends_statement(brackets, token) {
+            return token.span.end;
+        }
+        end = token.span.end;
+        brackets = open_after(brackets, token);
+        is_first = false;
+    }
+    end
+}
+
+/// Whether a token opens the block of a statement: one that is a block itself opens with its first.
+fn begins_block(is_first: bool, token: &Token) -> bool
+    ensures { result ≡ spec.begins_block is_first token.now.kind }
+{
+    !is_first && is_mark(token, Punctuation::OpenBrace)
+}
+
+/// Whether a token is a semicolon outside of brackets, so many being open.
+fn ends_statement(brackets: usize, token: &Token) -> bool
+    ensures { result ≡ spec.ends_statement brackets token.now.kind }
+{
+    brackets == 0 && is_mark(token, Punctuation::Semicolon)
+}
+
+/// How many round brackets are open after a token, of those that were before it.
+fn open_after(brackets: usize, token: &Token) -> usize
+    requires { brackets < usize.MAX }
+    ensures { result ≡ spec.open_after brackets token.now.kind }
+{
+    if is_mark(token, Punctuation::OpenParen) {
+        brackets + 1
+    } else if is_mark(token, Punctuation::CloseParen) {
+        brackets.saturating_sub(1)
+    } else {
+        brackets
     }
 }

@@ -1,9 +1,15 @@
 // What single tokens are, and where in a row of tokens one of a kind stands.
 
+ghost use Rattle.std.specs.Prelude.{◌≡◌, ◌↔◌, IsTrue, count_by};
+ghost use Rattle.strc_lex.specs.declared.token.TokenKind.TheVariants as kinds;
+ghost use Rattle.strc_source.specs.Tokens as spec;
+
 use strc_lex::token::{Keyword, Punctuation, Span, Token, TokenKind};
 
 /// Whether a token is this keyword.
-pub fn is_keyword(token: &Token, keyword: Keyword) -> bool {
+pub fn is_keyword(token: &Token, keyword: Keyword) -> bool
+    ensures { result ≡ spec.is_keyword keyword token.now.kind }
+{
     match token.kind {
         TokenKind::Keyword(found) => found == keyword,
         _ => false,
@@ -11,7 +17,9 @@ pub fn is_keyword(token: &Token, keyword: Keyword) -> bool {
 }
 
 /// Whether a token is this mark.
-pub fn is_mark(token: &Token, mark: Punctuation) -> bool {
+pub fn is_mark(token: &Token, mark: Punctuation) -> bool
+    ensures { result ≡ spec.is_mark mark token.now.kind }
+{
     match token.kind {
         TokenKind::Punctuation(found) => found == mark,
         _ => false,
@@ -19,28 +27,24 @@ pub fn is_mark(token: &Token, mark: Punctuation) -> bool {
 }
 
 /// Whether a token is this name.
-pub fn is_name(token: &Token, name: &[u8]) -> bool {
+pub fn is_name(token: &Token, name: &[u8]) -> bool
+    ensures { IsTrue result ↔ (token.now.kind ≡ kinds.Name name.now) }
+{
     match &token.kind {
         TokenKind::Name(found) => found.as_bytes() == name,
         _ => false,
     }
 }
 
-/// The first such keyword.
-pub fn first_keyword(tokens: &[Token], keyword: Keyword) -> Option<Span> {
-    let found = tokens.iter().find(|token| is_keyword(token, keyword))?;
-    Some(found.span)
-}
-
 /// The last such keyword that begins before this byte of the text.
-pub fn keyword_before(tokens: &[Token], at: usize, keyword: Keyword) -> Option<Span> {
-    let mut last = None;
-    for token in tokens {
-        if token.span.start < at && is_keyword(token, keyword) {
-            last = Some(token.span);
-        }
-    }
-    last
+pub fn keyword_before(tokens: &[Token], at: usize, keyword: Keyword) -> Option<Span>
+    ensures { result ≡ spec.keyword_before at keyword tokens.now }
+{
+    let last = tokens
+        .iter()
+        .rev()
+        .find(|token| token.span.start < at && is_keyword(token, keyword))?;
+    Some(last.span)
 }
 
 /// How many tokens are this name.

@@ -1,6 +1,7 @@
 -- A declared tree as the tree that contracts speak of.
-use Rattle.std.specs.Prelude.{List, [], ◌∷◌, Option, map}
+use Rattle.std.specs.Prelude.{◌≡◌, List, [], ◌∷◌, Option, map}
 use Rattle.std.specs.Option.{option_map}
+use Rattle.strc_base.specs.declared.place.Span.{Span}
 use Rattle.strc_syntax.specs.Tree as tree
 use Rattle.strc_syntax.specs.declared.tree.Expr.{Expr, Row_of-Expr, end_of-Expr, more_of-Expr}
 use Rattle.strc_syntax.specs.declared.tree.Expr.TheVariants as expr
@@ -133,6 +134,12 @@ abbrev mutual
   pub members_view : {m : _} → Row_of-Member m → tree.Members
   members_view end_of-Member = tree.NoMember
   members_view (more_of-Member first rest) = tree.And (member_view first) (members_view rest)
+
+-- a statement with its place
+abbrev pub IsPlacedAt : Span → Stmt → (placed : Stmt) → Type 0
+IsPlacedAt place statement (stmt.Placed' written at inner) =
+    (written ≡ place) × (inner ≡ statement)
+IsPlacedAt place statement _ = ⊥
 
 -- the statements of a block
 abbrev pub block_view : List Stmt → tree.Stmts

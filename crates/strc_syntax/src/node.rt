@@ -4,6 +4,7 @@ ghost use Rattle.std.specs.Prelude.{◌≡◌, IfOk, map};
 ghost use Rattle.std.specs.Box.{box_value};
 ghost use Rattle.std.specs.Option.{option_map};
 ghost use Rattle.strc_syntax.specs.View.{expr_view, stmt_view, rate_view, member_view, child_view};
+ghost use Rattle.strc_syntax.specs.View.{IsPlacedAt};
 ghost use Rattle.strc_syntax.specs.Tree.{row, chain, arguments_of};
 ghost use Rattle.strc_syntax.specs.Tree as tree;
 
@@ -177,7 +178,8 @@ pub fn for_of(
 
 /// The same statement, with where it is written.
 pub fn placed_of(alloc: Global, place: Span, statement: Stmt) -> Result<Stmt, AllocError>
-    ensures { IfOk result (λ s. stmt_view s ≡ stmt_view statement) }
+    ensures same { IfOk result (λ s. stmt_view s ≡ stmt_view statement) }
+    ensures placed { IfOk result (IsPlacedAt place statement) }
 {
     Ok(Stmt::Placed(place, Box::new(alloc, statement)?))
 }

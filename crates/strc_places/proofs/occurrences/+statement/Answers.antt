@@ -1,36 +1,68 @@
-use Rattle.std.proofs.Common.{◌+◌, length, drop, sym, ap, ◌∙◌}
+use Rattle.std.proofs.Common.{◌+◌, ◌++◌, drop, replicate, sym, ap, ◌∙◌}
 use Rattle.std.proofs.lemmas.Result.{on_ok_weaker}
-use Rattle.strc_syntax.specs.View.{stmt_view, block_view}
-use Rattle.strc_syntax.proofs.Blocks.{stmt_view-Block, block_view-drop}
-use Rattle.strc_places.specs.Occurrences.{row_count, stmt_count}
-use Rattle.strc_places.proofs.Counting.{statement_more}
+use Rattle.strc_syntax.specs.View.{expr_view}
+use Rattle.strc_places.specs.Occurrences.{expression_count, one, division, assigns_quotient}
+use Rattle.strc_places.specs.declared.occurrences.Sought.TheVariants as sought
+use Rattle.strc_places.specs.OccurrencePlaces.{stmt_places, block_places}
+use Rattle.strc_places.proofs.Walks.{places_more, drop-item, stmt_places-Block, then_here}
+use Rattle.strc_places.proofs.Walks.{then_thrice}
 use Rattle.strc_places.proofs.occurrences.+statement.Goals as goal
 
 pub walk_block-loop-statement-preserved : goal.walk_block-loop-statement-preserved
 walk_block-loop-statement-preserved t c =
     let all = c.args.block.now in
     let i = c.loop-statement.statement-index in
-    let x = stmt_view c.statement-item.result in
-    let rest = block_view (drop (i + 1) all) in
-    let before = length c.loop-statement.walk.found.items in
+    let looked = c.args.walk.now.sought in
+    let here = c.args.here in
+    let x = c.statement-item.result in
+    let before = c.loop-statement.walk.found.items in
     let same = c.loop-statement.invariant.sought in
     record {
-      counts = statement_more c.args.walk.now.sought before
-          (length c.walk_statement.new.walk.found.items) _ x rest (block_view (drop i all))
-          (c.in_ok-walk_statement.ensures.counts
-          ∙ ap (λ s. before + stmt_count s x) same)
-          (block_view-drop all i c.statement-item.result c.loop-statement-test.true
-          c.statement-item.is) c.loop-statement.invariant.counts;
+      marks = places_more before c.walk_statement.new.walk.found.items _
+          (stmt_places looked here x) (block_places looked here (drop (i + 1) all)) _
+          (c.in_ok-walk_statement.ensures.marks ∙ ap (λ s. before ++ stmt_places s here x) same)
+          (ap (block_places looked here) (drop-item all i x c.loop-statement-test.true
+          c.statement-item.is)) c.loop-statement.invariant.marks;
       sought = c.in_ok-walk_statement.ensures.sought ∙ same;
     }
 
-pub walk_statement-returns-in-Block-clause-counts :
-    goal.walk_statement-returns-in-Block-clause-counts
-walk_statement-returns-in-Block-clause-counts t c =
+pub walk_statement-returns-in-Block-clause-marks : goal.walk_statement-returns-in-Block-clause-marks
+walk_statement-returns-in-Block-clause-marks t c =
     let looked = c.args.walk.now.sought in
+    let here = c.args.here in
     let same =
-    ap (λ items. row_count looked (block_view items)) c.deref.ensures.value
-    ∙ ap (stmt_count looked) (sym (stmt_view-Block c.in-Block.body))
-    ∙ ap (λ s. stmt_count looked (stmt_view s)) (sym c.in-Block.is) in
+    ap (block_places looked here) c.deref.ensures.value
+    ∙ sym (stmt_places-Block looked here c.in-Block.body)
+    ∙ ap (stmt_places looked here) (sym c.in-Block.is) in
     on_ok_weaker c.walk_block.result
-    (λ h. h ∙ ap (λ n. length c.args.walk.now.found.items + n) same) c.walk_block.ensures.counts
+    (λ h. h ∙ ap (λ l. c.args.walk.now.found.items ++ l) same) c.walk_block.ensures.marks
+
+pub walk_statement-returns-in_ok-meet-in-AssignElement-clause-marks :
+    goal.walk_statement-returns-in_ok-meet-in-AssignElement-clause-marks
+walk_statement-returns-in_ok-meet-in-AssignElement-clause-marks t c =
+    let looked = c.args.walk.now.sought in
+    let here = c.args.here in
+    let old = c.args.walk.now.found.items in
+    let index = expr_view c.in-AssignElement.index in
+    let value = expr_view c.in-AssignElement.value in
+    let divides = assigns_quotient c.in-AssignElement.operator in
+    let kept = c.in_ok-walk_expression-in-AssignElement.ensures.sought in
+    let kept_2 = c.in_ok-walk_expression-in-AssignElement-2.ensures.sought ∙ kept in
+    let kept_3 = c.in_ok-meet-in-AssignElement.ensures.sought ∙ kept_2 in
+    let middle = c.walk_expression-in-AssignElement.new.walk.found.items in
+    let after = c.walk_expression-in-AssignElement-2.new.walk.found.items in
+    let met = c.meet.new.self.found.items in
+    on_ok_weaker c.assigned-in-AssignElement.result
+    (λ h. then_here old met c.assigned-in-AssignElement.new.self.found.items
+    (expression_count looked index + expression_count looked value + one looked sought.Element)
+    (division looked divides value) here
+    (then_thrice old middle after met (expression_count looked index)
+    (expression_count looked value) (one looked sought.Element) here
+    c.in_ok-walk_expression-in-AssignElement.ensures.marks
+    (c.in_ok-walk_expression-in-AssignElement-2.ensures.marks
+    ∙ ap (λ s. middle ++ replicate (expression_count s value) here) kept)
+    (c.in_ok-meet-in-AssignElement.ensures.marks
+    ∙ ap (λ s. after ++ replicate (one s sought.Element) here) kept_2))
+    (h ∙ ap (λ s. met ++ replicate (division s divides value) here) kept_3)
+    ∙ ap (λ s. old ++ stmt_places looked here s) (sym c.in-AssignElement.is))
+    c.assigned-in-AssignElement.ensures.marks

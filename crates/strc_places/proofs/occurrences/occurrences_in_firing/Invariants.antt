@@ -1,13 +1,10 @@
-use Rattle.std.proofs.Common.{◌≡◌, ◌+◌, length, drop, map}
-use Rattle.strc_syntax.specs.View.{block_view, member_view}
-use Rattle.strc_places.specs.Occurrences.{row_count, helpers_count}
+use Rattle.std.proofs.Common.{◌≡◌, ◌++◌, drop, None}
+use Rattle.strc_places.specs.OccurrencePlaces.{block_places, helpers_places}
 use Rattle.strc_places.proofs.occurrences.occurrences_in_firing.Given as goal
 
 abbrev pub invariant-loop-member : goal.invariant-loop-member
 invariant-loop-member l = record {
-  counts : length l.walk.found.items
-      + helpers_count l.fn.sought (map member_view (drop l.member-index l.members))
-      ≡ row_count l.fn.sought (block_view l.fn.block)
-      + helpers_count l.fn.sought (map member_view l.members);
+  marks : l.walk.found.items ++ helpers_places l.fn.sought (drop l.member-index l.members)
+      ≡ block_places l.fn.sought None l.fn.block ++ helpers_places l.fn.sought l.members;
   sought : l.walk.sought ≡ l.fn.sought;
 }

@@ -1,13 +1,13 @@
-use Rattle.std.proofs.Common.{◌≡◌, ◌+◌, length, drop, map}
+use Rattle.std.proofs.Common.{◌≡◌, ◌++◌, drop, map, replicate}
 use Rattle.strc_syntax.specs.View.{variable_view}
 use Rattle.strc_places.specs.Occurrences.{variables_count}
 use Rattle.strc_places.proofs.occurrences.walk_variables.Given as goal
 
 abbrev pub invariant-loop-variable : goal.invariant-loop-variable
 invariant-loop-variable l = record {
-  counts : length l.walk.found.items + variables_count l.initial.walk.sought
-      (map variable_view (drop l.variable-index l.variables))
-      ≡ length l.initial.walk.found.items + variables_count l.initial.walk.sought
-      (map variable_view l.variables);
+  marks : l.walk.found.items ++ replicate (variables_count l.initial.walk.sought
+      (map variable_view (drop l.variable-index l.variables))) l.here
+      ≡ l.initial.walk.found.items
+      ++ replicate (variables_count l.initial.walk.sought (map variable_view l.variables)) l.here;
   sought : l.walk.sought ≡ l.initial.walk.sought;
 }

@@ -28,7 +28,7 @@ returns-in_err-read g c =
     c.loop-turn-test.true (brace_stays _
     (sym c.is_punctuation.ensures ∙ c.if-is_punctuation.false))
     (grown_fails stmt_view (statement (c.args.self.now.depth - 1)) c.loop-turn.read
-    c.below-next.result c.below-next.ensures c.in_err-read.field-0.0 c.in_err-read.ensures))
+    c.below-next.result c.below-next.ensures.gives c.in_err-read.field-0.0 c.in_err-read.ensures))
 
 pub loop-turn-preserved : goal.loop-turn-preserved
 loop-turn-preserved g c =
@@ -40,7 +40,7 @@ loop-turn-preserved g c =
     (kinds c.in_ok-read.read.rest.now) c.loop-turn-test.true
     (brace_stays _ (sym c.is_punctuation.ensures ∙ c.if-is_punctuation.false))
     (grown_turn stmt_view (statement (c.args.self.now.depth - 1)) c.loop-turn.read
-    c.below-next.result c.below-next.ensures c.in_ok-read.read c.in_ok-read.ensures)
+    c.below-next.result c.below-next.ensures.gives c.in_ok-read.read c.in_ok-read.ensures)
 
 pub returns : goal.returns
 returns g c =
