@@ -1,6 +1,7 @@
 pub mod Spelled
 pub mod Nodes
 pub mod Blocks
+pub mod Statements
 pub mod Cycles
 pub mod Lines
 pub mod Totals

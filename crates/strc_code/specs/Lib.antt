@@ -10,3 +10,4 @@ pub mod Lowering
 pub mod Links
 pub mod Lowered
 pub mod Helpers
+pub mod Bodies

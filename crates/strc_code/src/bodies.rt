@@ -4,6 +4,7 @@ ghost use Rattle.std.specs.Prelude.{◌≡◌, max, map, is_some};
 ghost use Rattle.std.specs.Option.{option_map};
 ghost use Rattle.strc_syntax.specs.View.{expr_view, stmt_view, block_view, rate_view};
 ghost use Rattle.strc_semantics.specs.Filters as filters;
+ghost use Rattle.strc_code.specs.Bodies.{body_statements, work_statements, prework_statements};
 ghost use Rattle.strc_code.specs.Lowered as lowered;
 
 use crate::limits::FiringLimits;
@@ -62,7 +63,8 @@ fn prework_rates(members: &[Member]) -> Option<&[RateTree]>
 
 /// The block of a body; without a prework each body is the work.
 pub fn block_of(members: &[Member], body: Body) -> &[Stmt]
-    ensures { block_view result.now ≡ filters.body_block body (filters.members_of members.now) }
+    ensures placed { result.now ≡ body_statements body members.now }
+    ensures statements { block_view result.now ≡ filters.body_block body (filters.members_of members.now) }
 {
     match body {
         Body::Prework => match prework_block(members) {
@@ -75,7 +77,8 @@ pub fn block_of(members: &[Member], body: Body) -> &[Stmt]
 
 /// The block of the first work.
 fn work_block(members: &[Member]) -> &[Stmt]
-    ensures { block_view result.now ≡ filters.work_block (filters.members_of members.now) }
+    ensures placed { result.now ≡ work_statements members.now }
+    ensures statements { block_view result.now ≡ filters.work_block (filters.members_of members.now) }
 {
     for member in members {
         match member {
@@ -91,7 +94,8 @@ fn work_block(members: &[Member]) -> &[Stmt]
 
 /// The block of the first prework, where there is one.
 fn prework_block(members: &[Member]) -> Option<&[Stmt]>
-    ensures { option_map (λ block. block_view block.now) result
+    ensures placed { option_map (λ block. block.now) result ≡ prework_statements members.now }
+    ensures statements { option_map (λ block. block_view block.now) result
         ≡ filters.prework_block (filters.members_of members.now) }
 {
     for member in members {

@@ -104,6 +104,7 @@ pub struct DeclaredRates {
 impl Code {
     ghost use Rattle.strc_code.specs.Lowering.{start_nodes, body_nodes};
     ghost use Rattle.strc_code.specs.Lowering as lowering;
+    ghost use Rattle.strc_code.specs.Bodies.{body_statements};
     ghost use Rattle.strc_semantics.specs.Closed.{IsClosedFilter};
     ghost use Rattle.strc_code.specs.Helpers.{AreHelpers, saved_count};
 
@@ -168,7 +169,7 @@ impl Code {
     /// An equal code, in a step and without memory of its own. NoMemory where there are 2^63 - 1
     /// of them.
     pub fn copy(&self) -> Result<Code, NoMemory>
-        ensures { IfOk result (λ copy. filters.filter_of copy ≡ filters.filter_of self.now) }
+        ensures { IfOk result (λ copy. copy ≡ self.now) }
     {
         Ok(Code {
             lowered: Arc::try_clone(&self.lowered)?,
@@ -201,7 +202,8 @@ impl Code {
 
     /// The statements of a body; without a prework each body is the work.
     pub fn block(&self, body: Body) -> &[Stmt]
-        ensures { block_view result.now ≡ filters.body_block body
+        ensures placed { result.now ≡ body_statements body self.now.members.items }
+        ensures statements { block_view result.now ≡ filters.body_block body
             (filters.filter_of self.now).members }
     {
         bodies::block_of(&self.lowered().tree.members, body)
