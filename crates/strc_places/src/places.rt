@@ -264,11 +264,7 @@ fn place_of_fault(
 
 /// Where there are too many filters or too many levels: of a stream that adds itself the statement
 /// that does so.
-fn place_of_limit(
-    known: Known<'_>,
-    refusal: &Refusal,
-    site: Site,
-) -> Result<Option<Span>, NoMemory>
+fn place_of_limit(known: Known<'_>, refusal: &Refusal, site: Site) -> Result<Option<Span>, NoMemory>
     ensures { (at : Span) → refused.lacks_part site.mismatch ≡ false → site.place ≡ Some at
         → IfOk result (nodes.IsHeading known.entry.source.tokens.now) }
 {

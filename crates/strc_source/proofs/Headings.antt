@@ -31,8 +31,11 @@ module _ (place : Span) (tokens : List Token) (i : ℕ) (token : Token) (within 
     pub end_beyond : (is_first : Bool) (end brackets : ℕ) → place.end < token.span.end
         → end_from is_first end brackets (tokens_in place (drop i tokens)) ≡ end
     end_beyond is_first end brackets beyond =
-        rw (left_from tokens i token within is, le-leb place.start token.span.start from,
-        lt-leb token.span.end place.end beyond) refl
+        rw (
+          left_from tokens i token within is,
+          le-leb place.start token.span.start from,
+          lt-leb token.span.end place.end beyond,
+        ) refl
 
     module _ (up_to : token.span.end ≤ place.end) where
       -- it is in the place
@@ -70,7 +73,7 @@ open_more brackets token =
     elim (cases_Bool (is_mark mark.OpenParen token)) [
       | inl opens ↦ rw opens (omega arith)
       | inr other ↦ elim (cases_Bool (is_mark mark.CloseParen token)) [
-          | inl closes ↦ rw (other, closes) (omega arith)
-          | inr neither ↦ rw (other, neither) (omega arith)
-        ]
+        | inl closes ↦ rw (other, closes) (omega arith)
+        | inr neither ↦ rw (other, neither) (omega arith)
+      ]
     ]

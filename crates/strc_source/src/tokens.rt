@@ -40,10 +40,8 @@ pub fn is_name(token: &Token, name: &[u8]) -> bool
 pub fn keyword_before(tokens: &[Token], at: usize, keyword: Keyword) -> Option<Span>
     ensures { result ≡ spec.keyword_before at keyword tokens.now }
 {
-    let last = tokens
-        .iter()
-        .rev()
-        .find(|token| token.span.start < at && is_keyword(token, keyword))?;
+    let last = tokens.iter().rev().find(|token| token.span.start < at
+        && is_keyword(token, keyword))?;
     Some(last.span)
 }
 

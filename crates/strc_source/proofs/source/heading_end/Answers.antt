@@ -34,11 +34,11 @@ loop-token-preserved c =
     let x = c.token-item.result in
     record {
       same = rw (c.open_after-brackets.ensures) (
-        sym (end_goes_on c.args.place c.args.tokens.now at.token-index x
-        c.loop-token-test.true c.token-item.is c.if-token-place.false c.if-token-place-2.false
-        at.is_first at.end at.brackets (sym c.begins_block.ensures ∙ c.if-begins_block.false)
-        (sym c.ends_statement.ensures ∙ c.if-ends_statement.false)) ∙ at.invariant.same
-      );
+          sym (end_goes_on c.args.place c.args.tokens.now at.token-index x
+          c.loop-token-test.true c.token-item.is c.if-token-place.false c.if-token-place-2.false
+          at.is_first at.end at.brackets (sym c.begins_block.ensures ∙ c.if-begins_block.false)
+          (sym c.ends_statement.ensures ∙ c.if-ends_statement.false)) ∙ at.invariant.same
+          );
       brackets = let more = open_more at.brackets x.kind in
           let kept = at.invariant.brackets in
           let is = c.open_after-brackets.ensures in
