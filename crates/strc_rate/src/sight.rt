@@ -28,7 +28,7 @@ pub(crate) enum PeekSite {
 }
 
 /// What is known of a peek.
-#[derive(Clone, Copy)]
+#[derive(Clone, Copy, PartialEq)]
 pub enum PeekBounds {
     /// It stays within its window.
     Closed,
