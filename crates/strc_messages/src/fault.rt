@@ -2,6 +2,7 @@
 
 ghost use Rattle.std.specs.Prelude.{[], codes, IfOk, slice_get};
 ghost use Rattle.strc_places.specs.Nodes.{MarksName};
+ghost use Rattle.strc_places.specs.Refused as spec;
 ghost use Rattle.strc_places.specs.Refused.{MarksFaultOf};
 ghost use Rattle.strc_source.specs.Messages.{IsMessage};
 
@@ -13,15 +14,15 @@ use strc_graph::graph::{Graph, Node};
 use strc_graph::instance::Instance;
 use strc_lex::token::Keyword;
 use strc_places::bodies::faulting_statement;
-use strc_places::operators::faulting_part;
-use strc_places::spelling::spelled_or_first;
 use strc_refusal::outcome::Round;
 use strc_refusal::run_refusal::RunRefusal;
 use strc_semantics::body::Body;
 use strc_semantics::fault::Cause;
 use strc_source::message::Message;
 use strc_source::nodes::push_node;
+use strc_source::operators::faulting_part;
 use strc_source::source::Source;
+use strc_source::spelling::spelled_or_first;
 use strc_source::tokens::keyword_before;
 use strc_syntax::tree::{FilterTree, Member, Stmt};
 
@@ -88,19 +89,26 @@ fn place_of_fault(
     fault: FaultSite,
 ) -> Result<Option<Span>, NoMemory>
     ensures { IfOk result (MarksFaultOf source.entry.text.now source.entry.tokens.now fault.cause
-        (slice_get graph.now.nodes fault.node)) }
+        (spec.body_fired fault.firing) (slice_get graph.now.nodes fault.node)) }
 {
     let Some(Node::Filter(instance)) = graph.nodes().get(fault.node as usize) else {
         return Ok(None);
     };
-    let body = if fault.firing == 0 && instance.code.has_prework() {
-        Body::Prework
-    } else {
-        Body::Work
-    };
+    let body = body_fired(fault.firing);
     match faulting_statement(alloc, &instance.code, body, fault.cause)? {
         Some(statement) => Ok(Some(faulting_part(source, statement, fault.cause))),
         None => Ok(place_of_filter(source, instance)),
+    }
+}
+
+/// The body of a firing, by the number of firings before it.
+fn body_fired(before: u64) -> Body
+    ensures { result ≡ spec.body_fired before }
+{
+    if before == 0 {
+        Body::Prework
+    } else {
+        Body::Work
     }
 }
 

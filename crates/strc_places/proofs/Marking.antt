@@ -9,7 +9,7 @@ use Rattle.strc_semantics.specs.Filters.{Filter}
 use Rattle.strc_places.specs.declared.moved.Moved.{Moved}
 use Rattle.strc_places.specs.Keywords.{declared_keyword}
 use Rattle.strc_places.specs.Refused.{Finds, MarksRate, Marked}
-use Rattle.strc_places.specs.Spelling.{MarksFrom}
+use Rattle.strc_source.specs.Spelling.{MarksFrom}
 
 -- the place of a rate that is found, at the filter of a node
 pub found_marked : (text : List ℕ) (tokens : List Token) (there : Option Filter) (filter : Filter)

@@ -5,8 +5,8 @@ use Rattle.strc_base.specs.declared.place.Span.{Span}
 use Rattle.strc_lex.specs.declared.token.Token.{Token}
 use Rattle.strc_source.specs.Headings.{heading}
 use Rattle.strc_source.specs.declared.preorder.Preorder.{Preorder}
-use Rattle.strc_places.specs.Nodes.{MarksName, MarksInNode, declared_name, first_name}
-use Rattle.strc_places.specs.Spelling.{Marks}
+use Rattle.strc_places.specs.Nodes.{MarksName, MarksStatement, declared_name, first_name}
+use Rattle.strc_source.specs.Spelling.{Marks}
 
 -- where no token is spelled so any place will do
 still : (text : List ℕ) (tokens : List Token) (bytes : List ℕ) (place : Option Span)
@@ -37,10 +37,10 @@ target_marked text tokens (Some bytes) target place unwritten marks =
     still text tokens bytes place unwritten
 
 -- a statement, or else the node's name
-pub marks_in_node : (text : List ℕ) (tokens : List Token) (order : Option Preorder) (node : ℕ)
+pub marks_statement : (text : List ℕ) (tokens : List Token) (order : Option Preorder) (node : ℕ)
     (statement name : Option Span)
     → MarksName text tokens (declared_name order node) name
-    → MarksInNode text tokens order node
+    → MarksStatement text tokens order node statement
     (option_or (option_map (λ at. heading at tokens) statement) name)
-marks_in_node text tokens order node None name marks = inr marks
-marks_in_node text tokens order node (Some at) name marks = inl (at, refl)
+marks_statement text tokens order node None name marks = marks
+marks_statement text tokens order node (Some at) name marks = refl

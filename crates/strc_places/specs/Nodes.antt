@@ -6,7 +6,7 @@ use Rattle.strc_lex.specs.declared.token.Token.{Token}
 use Rattle.strc_source.specs.declared.preorder.Preorder.{Preorder}
 use Rattle.strc_source.specs.declared.preorder.Seen.{Seen}
 use Rattle.strc_source.specs.Headings.{heading}
-use Rattle.strc_places.specs.Spelling.{Marks}
+use Rattle.strc_source.specs.Spelling.{Marks}
 
 -- what is marked is a statement as far as its heading goes
 abbrev pub IsHeading : List Token → Option Span → Type 0
@@ -25,11 +25,12 @@ declared_name (Some order) node = name_if_declared (slice_get order.nodes.items 
 abbrev pub MarksName : List ℕ → List Token → Option (List ℕ) → Option Span → Type 0
 MarksName text tokens name place = IfSome name (λ bytes. Marks text tokens bytes place)
 
--- a statement is marked, or the name of the node that has it
-abbrev pub MarksInNode : List ℕ → List Token → Option Preorder → (node : ℕ) → Option Span
-    → Type 0
-MarksInNode text tokens order node place =
-    IsHeading tokens place ⊎ MarksName text tokens (declared_name order node) place
+-- of a statement that is found its heading is marked, or else the name of the node that has it
+abbrev pub MarksStatement : List ℕ → List Token → Option Preorder → (node : ℕ)
+    → (statement : Option Span) → Option Span → Type 0
+MarksStatement text tokens order node None place =
+    MarksName text tokens (declared_name order node) place
+MarksStatement text tokens order node (Some at) place = place ≡ Some (heading at tokens)
 
 -- of a channel the name of the node at its source, or else of the one at its target
 abbrev pub first_name : (source target : Option (List ℕ)) → Option (List ℕ)

@@ -97,3 +97,8 @@ BeginsAs place (Some other) = other.start ≡ place.start
 -- the first of these, if all of them begin where it does
 abbrev pub IsSingle : List (Option Span) → Span → Type 0
 IsSingle places place = (slice_get places 0 ≡ Some (Some place)) × All (BeginsAs place) places
+
+-- the place that all of these begin at, where there is one
+abbrev pub IsOnly : List (Option Span) → (found : Option Span) → Type 0
+IsOnly places (Some place) = IsSingle places place
+IsOnly places None = (place : Span) → IsSingle places place → ⊥

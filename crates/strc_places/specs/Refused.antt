@@ -1,11 +1,15 @@
 -- Which rates of a filter break a rule, and what is marked for one that does; which refusals are
 -- about a statement, and what is marked for a fault before the program runs.
 use Rattle.std.specs.Prelude.{◌≡◌, ◌⊎◌, ℕ, ℤ, pos, Bool, true, false, not, ◌&&◌, ◌||◌, List, []}
-use Rattle.std.specs.Prelude.{Option, Some, None, IfSome, slice_get}
+use Rattle.std.specs.Prelude.{Option, Some, None, IfSome, unwrap_or, slice_get, ◌==◌, if◌then◌else◌}
+use Rattle.std.specs.Option.{option_map, option_and_then}
 use Rattle.std.specs.Ordering.{int_eq}
 use Rattle.strc_base.specs.declared.place.Span.{Span}
 use Rattle.strc_lex.specs.declared.token.Token.{Token}
 use Rattle.strc_lex.specs.KeywordTexts.{keyword_text}
+use Rattle.strc_syntax.specs.declared.tree.FilterTree.{FilterTree}
+use Rattle.strc_syntax.specs.declared.tree.Member.{Member}
+use Rattle.strc_syntax.specs.declared.tree.Program.{Program}
 use Rattle.strc_syntax.specs.declared.tree.ItemType.{ItemType}
 use Rattle.strc_syntax.specs.declared.tree.ItemType.TheVariants as item
 use Rattle.strc_syntax.specs.declared.tree.RateKind.{RateKind}
@@ -25,12 +29,18 @@ use Rattle.strc_check.specs.declared.site.Mismatch.TheVariants as mismatch
 use Rattle.strc_refusal.specs.declared.refusal.Refusal.{Refusal}
 use Rattle.strc_refusal.specs.declared.refusal.Refusal.TheVariants as refusal
 use Rattle.strc_semantics.specs.declared.fault.Cause.{Cause}
+use Rattle.strc_semantics.specs.declared.fault.Cause.TheVariants as cause
 use Rattle.strc_source.specs.Headings.{heading}
 use Rattle.strc_places.specs.declared.moved.Moved.{Moved}
 use Rattle.strc_places.specs.Keywords.{declared_keyword}
 use Rattle.strc_places.specs.Nodes.{MarksName}
-use Rattle.strc_places.specs.Operators.{faulting_part}
-use Rattle.strc_places.specs.Spelling.{MarksFrom}
+use Rattle.strc_places.specs.Occurrences.{sought_for}
+use Rattle.strc_places.specs.OccurrencePlaces.{IsOnly, start_places, helpers_places}
+use Rattle.strc_places.specs.declared.occurrences.Sought.TheVariants as sought
+use Rattle.strc_source.specs.Operators.{faulting_part}
+use Rattle.strc_source.specs.Spelling.{MarksFrom}
+use Rattle.strc_places.specs.Streams.{IsRecursive}
+use Rattle.strc_places.specs.Statements.{fault_places, uncounted_place, outside_place}
 
 -- the declared rate of a kind: a missing one is 0, and a missing peek rate is the pop rate
 abbrev pub declared_rate : RateKind → Body → Filter → ℤ
@@ -92,9 +102,26 @@ abbrev pub node_filter : Option Node → Option Filter
 node_filter (Some (node.Filter instance)) = Some (filter_of instance.code)
 node_filter _ = None
 
+-- and its tree, with the places of its statements
+abbrev pub node_tree : Option Node → Option FilterTree
+node_tree (Some (node.Filter instance)) = Some instance.code
+node_tree _ = None
+
+abbrev pub tree_at : Option GraphParts → ℕ → Option FilterTree
+tree_at None number = None
+tree_at (Some graph) number = node_tree (slice_get graph.nodes number)
+
 abbrev pub filter_at : Option GraphParts → ℕ → Option Filter
 filter_at None number = None
 filter_at (Some graph) number = node_filter (slice_get graph.nodes number)
+
+-- the statement of a node's filter that can't be counted
+abbrev pub uncounted_at : Option GraphParts → ℕ → Option Span
+uncounted_at graph number = option_and_then uncounted_place (tree_at graph number)
+
+-- the first one with a peek outside of its window
+abbrev pub outside_at : Option GraphParts → ℕ → Option Span
+outside_at graph number = option_and_then outside_place (tree_at graph number)
 
 -- the same of the filter of a node
 abbrev pub MarksNode : List ℕ → List Token → Option GraphParts → ℕ
@@ -120,23 +147,64 @@ abbrev pub lacks_part : Option Mismatch → Bool
 lacks_part (Some (mismatch.Missing kind part)) = true
 lacks_part _ = false
 
--- the part of a statement that faults is marked
-abbrev pub IsFaultingPart : List Token → Cause → Option Span → Type 0
-IsFaultingPart tokens cause place =
-    (statement : Span) × (place ≡ Some (faulting_part tokens cause statement))
+-- the part of a statement that faults is marked, or without one a name
+abbrev pub MarksPart : List ℕ → List Token → Cause → Option (List ℕ) → (statement : Option Span)
+    → Option Span → Type 0
+MarksPart text tokens cause name None place = MarksName text tokens name place
+MarksPart text tokens cause name (Some at) place =
+    place ≡ Some (faulting_part tokens cause at)
 
--- what is marked of a fault before the program runs, at a site with this place
-abbrev pub MarksFault : List Token → Cause → (at : Span) → Option Span → Type 0
-MarksFault tokens cause at place =
-    IsFaultingPart tokens cause place ⊎ (place ≡ Some (heading at tokens))
+-- where what a filter starts with can fault so; only a call in a helper function can be one too many
+-- at once
+abbrev pub start_fault_places : Cause → List Member → List (Option Span)
+start_fault_places cause.Calls members = helpers_places sought.Call members
+start_fault_places other members = start_places (sought_for other) members
+
+-- the only such place of a filter's members, if there is one
+abbrev pub IsFaultingStart : Cause → Option (List Member) → (statement : Option Span) → Type 0
+IsFaultingStart cause None statement = statement ≡ None
+IsFaultingStart cause (Some members) statement =
+    IsOnly (start_fault_places cause members) statement
+
+-- what is marked of a fault of a filter's start: the part of the statement that faults
+abbrev pub MarksStart : List Token → Cause → Option (List Member) → Option Span → Type 0
+MarksStart tokens cause members place = (statement : Option Span)
+    × IsFaultingStart cause members statement
+    × (place ≡ option_map (faulting_part tokens cause) statement)
+
+-- what is marked where a stream adds too many nodes or levels, at a site with this place: the
+-- heading of a statement that adds a stream that leads to the one it stands in, or of what is there
+abbrev pub MarksLevels : List Token → Option Program → (at : Span) → Option Span → Type 0
+MarksLevels tokens program at place = ((statement : Span) × IsRecursive program statement
+    × (place ≡ Some (heading statement tokens))) ⊎ (place ≡ Some (heading at tokens))
+
+-- what is marked of a fault before the program runs, at a site with this place: the part of the
+-- statement that faults of a filter that starts there, or else the heading of what is there
+abbrev pub MarksFault : List Token → Cause → Option (List Member) → (at : Span) → Option Span
+    → Type 0
+MarksFault tokens cause members at place = (statement : Option Span)
+    × IsFaultingStart cause members statement
+    × (place ≡ Some (unwrap_or (option_map (faulting_part tokens cause) statement)
+    (heading at tokens)))
 
 -- the name by which the filter of a node is declared
 abbrev pub filter_name : Option Node → Option (List ℕ)
 filter_name (Some (node.Filter instance)) = instance.name
 filter_name _ = None
 
--- what is marked of a fault in a firing of a node: the operator or the heading of a statement, or
--- the name of its filter
-abbrev pub MarksFaultOf : List ℕ → List Token → Cause → Option Node → Option Span → Type 0
-MarksFaultOf text tokens cause faulting place = IsFaultingPart tokens cause place
-    ⊎ MarksName text tokens (filter_name faulting) place
+-- the only statement of a node's filter where a firing can fault so, if there is one
+abbrev pub IsFaulting : Cause → Body → Option FilterTree → (statement : Option Span) → Type 0
+IsFaulting cause body None statement = statement ≡ None
+IsFaulting cause body (Some filter) statement = IsOnly (fault_places cause body filter) statement
+
+-- what is marked of a fault in a firing of a node, of this body: the part of the statement that
+-- faults, or where several can, the name of its filter
+abbrev pub MarksFaultOf : List ℕ → List Token → Cause → Body → Option Node → Option Span → Type 0
+MarksFaultOf text tokens cause body faulting place = (statement : Option Span)
+    × IsFaulting cause body (node_tree faulting) statement
+    × MarksPart text tokens cause (filter_name faulting) statement place
+
+-- the body of a firing with so many before it: the first is the prework, or where there is none the
+-- work
+abbrev pub body_fired : ℕ → Body
+body_fired before = if before == 0 then body.Prework else body.Work

@@ -1,6 +1,10 @@
 // Places in the bodies of a filter.
 
-use crate::counted::uncounted;
+ghost use Rattle.std.specs.Prelude.{◌≡◌, ◌++◌, IfOk, OnOk};
+ghost use Rattle.strc_places.specs.OccurrencePlaces.{IsOnly};
+ghost use Rattle.strc_places.specs.Statements as spec;
+
+use crate::counted::{are_counted, uncounted};
 use crate::occurrences::{
     Sought, nested_calls, occurrences, occurrences_in_firing, single, sought_for,
 };
@@ -13,32 +17,73 @@ use strc_rate::sight::PeekBounds;
 use strc_semantics::body::Body;
 use strc_semantics::fault::Cause;
 
-/// The bodies of a filter that are run.
-pub const BODIES: [Body; 2] = [Body::Prework, Body::Work];
-
 /// The first statement with a peek that can't be within its window.
-pub fn peek_outside(alloc: Global, code: &Code) -> Result<Option<Span>, NoMemory> {
-    for body in BODIES {
-        let peeks = occurrences(alloc, code.block(body), Sought::Peek)?;
-        let sights = body_peeks(alloc, code.block(body), code.window(body))?.sights;
-        for (sight, place) in sights.iter().zip(peeks.iter()) {
-            if let PeekBounds::Outside = sight {
-                return Ok(*place);
-            }
+pub fn peek_outside(alloc: Global, code: &Code) -> Result<Option<Span>, NoMemory>
+    ensures { IfOk result (λ place. place ≡ spec.outside_place code.now) }
+{
+    let mut outside = Vec::new(alloc);
+    add_peeks(code, Body::Prework, PeekBounds::Outside, &mut outside)?;
+    add_peeks(code, Body::Work, PeekBounds::Outside, &mut outside)?;
+    Ok(first_of(&outside))
+}
+
+fn first_of(places: &[Option<Span>]) -> Option<Span>
+    ensures { result ≡ spec.first_place places.now }
+{
+    match places.first() {
+        Some(place) => *place,
+        None => None,
+    }
+}
+
+/// The statements of the peeks of a body of which this is known.
+fn add_peeks(
+    code: &Code,
+    body: Body,
+    known: PeekBounds,
+    found: &mut Vec<Option<Span>>,
+) -> Result<(), NoMemory>
+    ensures { OnOk result (found.new.items ≡ found.old.items
+        ++ spec.peek_places known body code.now) }
+{
+    let alloc = *found.allocator();
+    let block = code.block(body);
+    let peeks = occurrences(alloc, block, Sought::Peek)?;
+    let sights = body_peeks(alloc, block, code.window(body))?.sights;
+    add_where(known, &sights, &peeks, found)
+}
+
+/// The places of those of which this is known.
+fn add_where(
+    known: PeekBounds,
+    sights: &[PeekBounds],
+    places: &[Option<Span>],
+    found: &mut Vec<Option<Span>>,
+) -> Result<(), NoMemory>
+    ensures { OnOk result (found.new.items ≡ found.old.items
+        ++ spec.places_where known sights.now places.now) }
+{
+    for (number, sight) in sights.iter().enumerate() {
+        let Some(place) = places.get(number) else {
+            return Ok(());
+        };
+        if *sight == known {
+            found.push(*place)?;
         }
     }
-    Ok(None)
+    Ok(())
 }
 
 /// The first statement that moves a number of items that can't be counted.
-pub fn uncounted_statement(alloc: Global, code: &Code) -> Result<Option<Span>, NoMemory> {
-    for body in BODIES {
-        let block = code.block(body);
-        if body_peeks(alloc, block, 0)?.counts.is_none() {
-            return uncounted(alloc, block, None);
-        }
+pub fn uncounted_statement(alloc: Global, code: &Code) -> Result<Option<Span>, NoMemory>
+    ensures { IfOk result (λ place. place ≡ spec.uncounted_place code.now) }
+{
+    let first = code.block(Body::Prework);
+    if are_counted(alloc, first)? {
+        uncounted(alloc, code.block(Body::Work), None)
+    } else {
+        uncounted(alloc, first, None)
     }
-    Ok(None)
 }
 
 /// The statement that faults in a firing, where no other one of its body or of a helper function
@@ -48,28 +93,20 @@ pub fn faulting_statement(
     code: &Code,
     body: Body,
     cause: Cause,
-) -> Result<Option<Span>, NoMemory> {
+) -> Result<Option<Span>, NoMemory>
+    ensures { IfOk result (IsOnly (spec.fault_places cause body code.now)) }
+{
     let members = &code.tree().members;
     match cause {
-        Cause::PeekRange => open_peek(alloc, code, body),
+        Cause::PeekRange => {
+            let mut open = Vec::new(alloc);
+            add_peeks(code, body, PeekBounds::Open, &mut open)?;
+            Ok(single(&open))
+        }
         Cause::Calls => Ok(single(&nested_calls(alloc, members)?)),
-        _ => {
+        Cause::DivZero | Cause::Index | Cause::Turns => {
             let found = occurrences_in_firing(alloc, members, code.block(body), sought_for(cause))?;
             Ok(single(&found))
         }
     }
-}
-
-/// The statement of all peeks that are tested when they run, where they are in one.
-fn open_peek(alloc: Global, code: &Code, body: Body) -> Result<Option<Span>, NoMemory> {
-    let block = code.block(body);
-    let peeks = occurrences(alloc, block, Sought::Peek)?;
-    let sights = body_peeks(alloc, block, code.window(body))?.sights;
-    let mut open = Vec::new(alloc);
-    for (sight, place) in sights.iter().zip(peeks.iter()) {
-        if let PeekBounds::Open = sight {
-            open.push(*place)?;
-        }
-    }
-    Ok(single(&open))
 }

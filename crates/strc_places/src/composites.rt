@@ -5,6 +5,7 @@ ghost use Rattle.std.specs.Prelude.{◌≡◌};
 ghost use Rattle.std.specs.Option.{option_map};
 ghost use Rattle.strc_syntax.specs.View.{block_view, stream_view};
 ghost use Rattle.strc_places.specs.Parts as spec;
+ghost use Rattle.strc_places.specs.Streams as streams;
 
 use crate::known::Known;
 use strc_base::place::Span;
@@ -23,7 +24,7 @@ pub fn part_statement(known: Known<'_>, added: Option<Span>, part: Part) -> Opti
 
 /// The block of the composite stream that a statement adds.
 fn block_added<'a>(known: Known<'a>, place: Span) -> Option<&'a [Stmt]> {
-    match child_added(known.declarations(), place)? {
+    match child_added(known.declarations(), place.start)? {
         Child::Named(name, _) => block_of(known.declaration_named(name.as_bytes())?),
         Child::Composite(_, _, block) => Some(block),
         Child::Identity(_) | Child::FileReader(_) | Child::FileWriter(_) | Child::Filter(_, _) => {
@@ -43,61 +44,115 @@ pub fn block_of(declaration: &Decl) -> Option<&[Stmt]>
     }
 }
 
-/// The child that the statement at a place adds.
-pub fn child_added(declarations: &[Decl], place: Span) -> Option<&Child> {
+/// The child that the first statement at this byte of the text adds.
+pub fn child_added(declarations: &[Decl], at: usize) -> Option<&Child>
+    ensures { option_map (λ c. c.now) result ≡ streams.child_added at declarations.now }
+{
     for declaration in declarations {
-        if let Some(block) = block_of(declaration) {
-            if let Some(child) = child_in_block(block, place) {
-                return Some(child);
-            }
-        }
-    }
-    None
-}
-
-#[cycle(child)]
-fn child_in_block(block: &[Stmt], place: Span) -> Option<&Child> {
-    for statement in block {
-        if let Some(child) = child_in(statement, place) {
+        if let Some(child) = child_in_stream(&declaration.stream, at) {
             return Some(child);
         }
     }
     None
 }
 
-/// The child that the statement at a place adds, where it is this statement or one inside of it.
+fn child_in_stream(stream: &StreamTree, at: usize) -> Option<&Child>
+    ensures { option_map (λ c. c.now) result ≡ streams.child_in_stream at stream.now }
+{
+    match stream {
+        StreamTree::Composite(composite) => child_in_block(&composite.block, at),
+        StreamTree::Filter(_) => None,
+    }
+}
+
 #[cycle(child)]
-fn child_in(statement: &Stmt, place: Span) -> Option<&Child> {
+fn child_in_block(block: &[Stmt], at: usize) -> Option<&Child>
+    ensures { option_map (λ c. c.now) result ≡ streams.child_in_block at block.now }
+{
+    for statement in block {
+        if let Some(child) = child_in(statement, at) {
+            return Some(child);
+        }
+    }
+    None
+}
+
+/// The child that the first statement at a byte adds, of this one and those inside of it.
+#[cycle(child)]
+fn child_in(statement: &Stmt, at: usize) -> Option<&Child>
+    ensures { option_map (λ c. c.now) result ≡ streams.child_in at statement.now }
+{
     match statement {
-        Stmt::Placed(own, inner) => {
-            if own.start > place.start || own.end < place.end {
-                None
-            } else if own.start == place.start {
+        Stmt::Placed(place, inner) => {
+            if place.start == at {
                 child_of(inner)
             } else {
-                child_in(inner, place)
+                child_in(inner, at)
             }
         }
-        Stmt::Block(block) => child_in_block(block, place),
+        Stmt::Block(block) => child_in_block(block, at),
         Stmt::If(_, chosen) | Stmt::While(_, chosen) | Stmt::For(_, _, _, chosen) => {
-            child_in(chosen, place)
+            child_in(chosen, at)
         }
-        Stmt::IfElse(_, chosen, other) => match child_in(chosen, place) {
+        Stmt::IfElse(_, chosen, other) => match child_in(chosen, at) {
             Some(child) => Some(child),
-            None => child_in(other, place),
+            None => child_in(other, at),
         },
-        Stmt::Compose(Composition::Child(_, Child::Composite(_, _, block))) => {
-            child_in_block(block, place)
-        }
-        _ => None,
+        Stmt::Compose(Composition::Child(_, added)) => child_below(added, at),
+        Stmt::Compose(Composition::Split(_))
+        | Stmt::Compose(Composition::Join(_))
+        | Stmt::Compose(Composition::Enqueue(_))
+        | Stmt::Empty
+        | Stmt::Declare(_)
+        | Stmt::Evaluate(_)
+        | Stmt::Assign(_, _, _)
+        | Stmt::AssignElement(_, _, _, _)
+        | Stmt::Push(_)
+        | Stmt::Print(_)
+        | Stmt::Println(_)
+        | Stmt::Return(_) => None,
+    }
+}
+
+/// The same of the statements of a stream that has no name.
+#[cycle(child)]
+fn child_below(added: &Child, at: usize) -> Option<&Child>
+    ensures { option_map (λ c. c.now) result ≡ streams.child_below at added.now }
+{
+    match added {
+        Child::Composite(_, _, block) => child_in_block(block, at),
+        Child::Named(_, _)
+        | Child::Identity(_)
+        | Child::FileReader(_)
+        | Child::FileWriter(_)
+        | Child::Filter(_, _) => None,
     }
 }
 
 /// The child that a statement adds.
-fn child_of(statement: &Stmt) -> Option<&Child> {
+fn child_of(statement: &Stmt) -> Option<&Child>
+    ensures { option_map (λ c. c.now) result ≡ streams.added_by statement.now }
+{
     match statement {
         Stmt::Compose(Composition::Child(_, child)) => Some(child),
-        _ => None,
+        Stmt::Compose(Composition::Split(_))
+        | Stmt::Compose(Composition::Join(_))
+        | Stmt::Compose(Composition::Enqueue(_))
+        | Stmt::Empty
+        | Stmt::Block(_)
+        | Stmt::Declare(_)
+        | Stmt::Evaluate(_)
+        | Stmt::Assign(_, _, _)
+        | Stmt::AssignElement(_, _, _, _)
+        | Stmt::If(_, _)
+        | Stmt::IfElse(_, _, _)
+        | Stmt::While(_, _)
+        | Stmt::For(_, _, _, _)
+        | Stmt::Push(_)
+        | Stmt::Print(_)
+        | Stmt::Println(_)
+        | Stmt::Return(_)
+        | Stmt::Placed(_, _) => None,
     }
 }
 

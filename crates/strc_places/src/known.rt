@@ -1,11 +1,11 @@
 // What is known of a program that a message is about.
 
-use crate::spelling::spelled_or_first;
 use std::alloc::Global;
 use strc_base::place::Span;
 use strc_graph::graph::Graph;
 use strc_source::preorder::Preorder;
 use strc_source::source::Source;
+use strc_source::spelling::spelled_or_first;
 use strc_statements::main_stream::can_be_main;
 use strc_syntax::tree::{Decl, Program};
 
@@ -24,7 +24,8 @@ impl<'a> Known<'a> {
     ghost use Rattle.std.specs.Prelude.{◌≡◌, IfSome, IfNone};
     ghost use Rattle.std.specs.Option.{option_map};
     ghost use Rattle.strc_places.specs.Parts as parts;
-    ghost use Rattle.strc_places.specs.Spelling as spelling;
+    ghost use Rattle.strc_source.specs.Spelling as spelling;
+    ghost use Rattle.strc_places.specs.Streams.{declared_as};
 
     /// The declarations of the program; none where it has no tree.
     pub fn declarations(self) -> &'a [Decl]
@@ -53,6 +54,8 @@ impl<'a> Known<'a> {
 
     /// The declaration of a name.
     pub fn declaration_named(self, name: &[u8]) -> Option<&'a Decl>
+        ensures first { option_map (λ d. d.now) result ≡ declared_as name.now
+            (option_map (λ p. p.now) self.entry.program) }
         ensures found { IfSome result (λ found. found.now.name ≡ name.now) }
         ensures undeclared { IfNone result (parts.IsUndeclared
             (option_map (λ p. p.now) self.entry.program) name.now) }

@@ -6,8 +6,10 @@
 // `place_of_refusal` marks an undeclared name, the name of a main stream that is asked for, of a
 // node at a channel, a feedback loop whose nodes wait, a rate that breaks a rule and a stream that
 // lacks a part where the text spells them, unless no token does; of a statement that is refused its
-// heading, and of one that faults the one operator that can (`faulting_part`). Which statement is
-// refused is tested by whole messages.
+// heading, and of one that faults the one operator that can (`faulting_part`). Which statement that
+// is says `uncounted_statement` of one that can't be counted, `peek_outside` of one that looks too
+// far, `recursive_statement` of one that adds its own stream, `faulting_statement` and
+// `faulting_start` of the only one that can fault so; of other refusals it is the site's.
 // Stands on strc_source, which knows the text's tokens and the stream's nodes, on strc_refusal,
 // whose refusals these are, on strc_statements, which says what can be the main stream, on
 // strc_stream, strc_graph and strc_code, whose filters know their text, on strc_rate and
@@ -21,9 +23,7 @@ pub mod depth;
 pub mod known;
 pub mod moved;
 pub mod occurrences;
-pub mod operators;
 pub mod origins;
 pub mod places;
 pub mod recursion;
-pub mod spelling;
 pub mod starts;

@@ -8,9 +8,8 @@ ghost use Rattle.strc_semantics.specs.Filters.{filter_of, has_rate};
 ghost use Rattle.strc_places.specs.Keywords as keywords;
 ghost use Rattle.strc_refusal.specs.declared.refusal.Refusal.TheVariants as refused_for;
 ghost use Rattle.strc_places.specs.Refused as refused;
-ghost use Rattle.strc_places.specs.Spelling as spelling;
+ghost use Rattle.strc_source.specs.Spelling as spelling;
 
-use crate::spelling::beginning_or_first;
 use std::alloc::Global;
 use strc_base::memory::NoMemory;
 use strc_base::place::Span;
@@ -21,6 +20,7 @@ use strc_rate::peeks::body_peeks;
 use strc_refusal::refusal::Refusal;
 use strc_semantics::body::Body;
 use strc_source::source::Source;
+use strc_source::spelling::beginning_or_first;
 use strc_source::tokens::{is_keyword, keyword_before};
 use strc_syntax::tree::{ItemType, RateKind, RateTree, Stmt};
 

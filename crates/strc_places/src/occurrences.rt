@@ -9,7 +9,7 @@ ghost use Rattle.strc_syntax.specs.View.{expr_view, variable_view, listed_view};
 ghost use Rattle.strc_places.specs.Occurrences as spec;
 ghost use Rattle.strc_places.specs.OccurrencePlaces.{stmt_places, block_places, member_places};
 ghost use Rattle.strc_places.specs.OccurrencePlaces.{start_places, helper_places, helpers_places};
-ghost use Rattle.strc_places.specs.OccurrencePlaces.{IsSingle, BlockPlacesAreCounted};
+ghost use Rattle.strc_places.specs.OccurrencePlaces.{IsOnly, BlockPlacesAreCounted};
 ghost use Rattle.strc_places.specs.OccurrencePlaces.{StartPlacesAreCounted};
 ghost use Rattle.strc_places.specs.OccurrencePlaces.{HelpersPlacesAreCounted};
 ghost use Rattle.strc_places.specs.declared.occurrences.Sought.TheVariants.{Call, Turn};
@@ -294,8 +294,7 @@ pub fn sought_for(cause: Cause) -> Sought
 
 /// The place that all these are.
 pub fn single(places: &[Option<Span>]) -> Option<Span>
-    ensures found { IfSome result (λ place. IsSingle places.now place) }
-    ensures none { IfNone result ((place : Span) → IsSingle places.now place → ⊥) }
+    ensures { IsOnly places.now result }
 {
     let first = (*places.first()?)?;
     let is_same = |place: &Option<Span>| match place {

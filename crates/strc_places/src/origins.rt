@@ -7,9 +7,9 @@ ghost use Rattle.strc_places.specs.Parts as spec;
 
 use crate::composites::part_statement;
 use crate::known::Known;
-use crate::spelling::spelled_or_first;
 use strc_base::place::Span;
 use strc_source::preorder::Origin;
+use strc_source::spelling::spelled_or_first;
 
 /// The declaration of a node's filter, or else the statement that the node comes from.
 #[tactic(auto, using(crate::proofs::Naming::marks_still))]

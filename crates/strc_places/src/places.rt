@@ -15,7 +15,8 @@ ghost use Rattle.strc_places.specs.Keywords as keywords;
 ghost use Rattle.strc_places.specs.Nodes as nodes;
 ghost use Rattle.strc_places.specs.Parts as parts;
 ghost use Rattle.strc_places.specs.Refused as refused;
-ghost use Rattle.strc_places.specs.Spelling as spelling;
+ghost use Rattle.strc_source.specs.Spelling as spelling;
+ghost use Rattle.strc_places.specs.Streams as streams;
 ghost use Rattle.strc_refusal.specs.declared.refusal.Refusal.TheVariants as refused_for;
 
 use crate::bodies::{peek_outside, uncounted_statement};
@@ -24,7 +25,6 @@ use crate::known::Known;
 use crate::moved::{moved_of, place_of_rate};
 use crate::origins::{ends_of, place_of_channel, place_of_node};
 use crate::recursion::recursive_statement;
-use crate::spelling::{beginning_or_first, first_spelled, spelled_or_first};
 use crate::starts::faulting_start;
 use strc_base::memory::NoMemory;
 use strc_base::place::Span;
@@ -35,6 +35,7 @@ use strc_lex::token::Keyword;
 use strc_refusal::refusal::Refusal;
 use strc_semantics::fault::Cause;
 use strc_source::counts::{large_channel, rates_of};
+use strc_source::spelling::{beginning_or_first, first_spelled, spelled_or_first};
 use strc_source::tokens::{count_of, keyword_before};
 use strc_syntax::tree::CompositeKind;
 
@@ -75,14 +76,16 @@ pub fn place_of_refusal(
         → site.mismatch ≡ Some (mismatched.Missing kind part) → site.place ≡ Some at
         → IfOk result (λ place. spelling.MarksFrom known.entry.source.text.now
         known.entry.source.tokens.now (keyword_text (keywords.kind_keyword kind)) place) }
-    // Of what can't be counted, and of a peek outside of its window, the heading of a statement is
-    // marked, or the name of its filter.
+    // Of the innermost statement that can't be counted, and of the first with a peek outside of its
+    // window, the heading is marked; without one the name of the filter.
     ensures uncounted { (node : ℕ) → refusal.now ≡ refused_for.RateUnknown node
-        → IfOk result (nodes.MarksInNode known.entry.source.text.now
-        known.entry.source.tokens.now (option_map (λ n. n.now) known.entry.nodes) node) }
+        → IfOk result (nodes.MarksStatement known.entry.source.text.now
+        known.entry.source.tokens.now (option_map (λ n. n.now) known.entry.nodes) node
+        (refused.uncounted_at (option_map (λ g. g.now) known.entry.graph) node)) }
     ensures outside { (node : ℕ) → refusal.now ≡ refused_for.PeekOutside node
-        → IfOk result (nodes.MarksInNode known.entry.source.text.now
-        known.entry.source.tokens.now (option_map (λ n. n.now) known.entry.nodes) node) }
+        → IfOk result (nodes.MarksStatement known.entry.source.text.now
+        known.entry.source.tokens.now (option_map (λ n. n.now) known.entry.nodes) node
+        (refused.outside_at (option_map (λ g. g.now) known.entry.graph) node)) }
     // Of a channel the name of the filter at its source is marked where it is written, or else that
     // of the one at its target.
     ensures inconsistent { (channel : ℕ) → refusal.now ≡ refused_for.Inconsistent channel
@@ -97,14 +100,19 @@ pub fn place_of_refusal(
     ensures statement { (at : Span) → refused.is_of_statement refusal.now ≡ true
         → refused.lacks_part site.mismatch ≡ false → site.place ≡ Some at
         → IfOk result (λ place. place ≡ Some (heading at known.entry.source.tokens.now)) }
-    // Where a stream adds too many nodes or levels, the heading of a statement is marked.
+    // Where a stream adds too many nodes or levels, the heading of a statement is marked that adds
+    // a stream again, or else that of the site's.
     ensures levels { (at : Span) → refused.is_limit refusal.now ≡ true
         → refused.lacks_part site.mismatch ≡ false → site.place ≡ Some at
-        → IfOk result (nodes.IsHeading known.entry.source.tokens.now) }
-    // Of a fault before the program runs the operator or the heading of a statement is marked.
+        → IfOk result (refused.MarksLevels known.entry.source.tokens.now
+        (option_map (λ p. p.now) known.entry.program) at) }
+    // Of a fault before the program runs the operator or the heading of the only statement is marked
+    // that can fault so where the filter starts, or else the heading of the site's.
     ensures fault { (cause : Cause) (at : Span) → refusal.now ≡ refused_for.ConstFault cause
         → refused.lacks_part site.mismatch ≡ false → site.place ≡ Some at
-        → IfOk result (refused.MarksFault known.entry.source.tokens.now cause at) }
+        → IfOk result (refused.MarksFault known.entry.source.tokens.now cause
+        (streams.members_at known.entry.source.text.now
+        (option_map (λ p. p.now) known.entry.program) at) at) }
     // Of a main stream that is asked for and declared a place is marked where its name is written.
     ensures asked { refusal.now ≡ refused_for.NoMain → IfSome known.entry.source.main (λ name.
         IfOk result (λ place. spelling.Marks known.entry.source.text.now
@@ -139,7 +147,9 @@ pub fn place_of_refusal(
 
 /// The filter of a node.
 pub fn code_of<'a>(known: Known<'a>, node: usize) -> Option<&'a Code>
-    ensures { option_map (λ c. filter_of c.now) result
+    ensures tree { option_map (λ c. c.now) result
+        ≡ refused.tree_at (option_map (λ g. g.now) known.entry.graph) node }
+    ensures filter { option_map (λ c. filter_of c.now) result
         ≡ refused.filter_at (option_map (λ g. g.now) known.entry.graph) node }
 {
     match known.graph?.nodes().get(node)? {
@@ -175,14 +185,20 @@ fn place_of_rates(
 }
 
 /// The statement of a node's filter that a refusal is about; the filter, where it isn't known.
-#[tactic(auto, using(crate::proofs::Naming::marks_in_node))]
+#[tactic(auto, using(crate::proofs::Naming::marks_statement))]
 fn place_in_filter(
     known: Known<'_>,
     node: usize,
     refusal: &Refusal,
 ) -> Result<Option<Span>, NoMemory>
-    ensures { IfOk result (nodes.MarksInNode known.entry.source.text.now
-        known.entry.source.tokens.now (option_map (λ n. n.now) known.entry.nodes) node) }
+    ensures uncounted { (number : ℕ) → refusal.now ≡ refused_for.RateUnknown number
+        → IfOk result (nodes.MarksStatement known.entry.source.text.now
+        known.entry.source.tokens.now (option_map (λ n. n.now) known.entry.nodes) node
+        (refused.uncounted_at (option_map (λ g. g.now) known.entry.graph) node)) }
+    ensures outside { (number : ℕ) → refusal.now ≡ refused_for.PeekOutside number
+        → IfOk result (nodes.MarksStatement known.entry.source.text.now
+        known.entry.source.tokens.now (option_map (λ n. n.now) known.entry.nodes) node
+        (refused.outside_at (option_map (λ g. g.now) known.entry.graph) node)) }
 {
     let filter = place_of_node(known, node);
     let Some(code) = code_of(known, node) else {
@@ -252,7 +268,9 @@ fn place_of_fault(
     cause: Cause,
 ) -> Result<Option<Span>, NoMemory>
     ensures { (at : Span) → refused.lacks_part site.mismatch ≡ false → site.place ≡ Some at
-        → IfOk result (refused.MarksFault known.entry.source.tokens.now cause at) }
+        → IfOk result (refused.MarksFault known.entry.source.tokens.now cause
+        (streams.members_at known.entry.source.text.now
+        (option_map (λ p. p.now) known.entry.program) at) at) }
 {
     if let Some(place) = site.place {
         if let Some(start) = faulting_start(known, place, cause)? {
@@ -266,7 +284,8 @@ fn place_of_fault(
 /// that does so.
 fn place_of_limit(known: Known<'_>, refusal: &Refusal, site: Site) -> Result<Option<Span>, NoMemory>
     ensures { (at : Span) → refused.lacks_part site.mismatch ≡ false → site.place ≡ Some at
-        → IfOk result (nodes.IsHeading known.entry.source.tokens.now) }
+        → IfOk result (refused.MarksLevels known.entry.source.tokens.now
+        (option_map (λ p. p.now) known.entry.program) at) }
 {
     if let Some(place) = site.place {
         if let Some(again) = recursive_statement(known, place)? {

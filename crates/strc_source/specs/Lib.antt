@@ -1,4 +1,6 @@
 pub mod Headings
 pub mod Messages
+pub mod Operators
 pub mod Places
+pub mod Spelling
 pub mod Tokens

@@ -2,7 +2,7 @@
 use Rattle.std.proofs.Common.{ℕ, List, take, length, ap, ◌∙◌}
 use Rattle.std.proofs.Math.Seq.{take-length}
 use Rattle.strc_base.specs.declared.place.Span.{Span}
-use Rattle.strc_places.specs.Spelling.{Spells, Begins}
+use Rattle.strc_source.specs.Spelling.{Spells, Begins}
 
 pub spelled_begins : (text : List ℕ) (place : Span) (bytes : List ℕ) → Spells text place bytes
     → Begins text place bytes

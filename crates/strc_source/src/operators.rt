@@ -1,13 +1,13 @@
 // The operator of a statement that faults.
 
 ghost use Rattle.std.specs.Prelude.{◌≡◌, ◌<◌, Some, IfSome, length, position};
-ghost use Rattle.strc_places.specs.Operators as spec;
+ghost use Rattle.strc_source.specs.Operators as spec;
 
+use crate::source::Source;
+use crate::tokens::is_mark;
 use strc_base::place::Span;
 use strc_lex::token::{Keyword, Punctuation, Token, TokenKind};
 use strc_semantics::fault::Cause;
-use strc_source::source::Source;
-use strc_source::tokens::is_mark;
 
 /// What is marked of a statement that faults: the operator that can, where it has just one; else as
 /// much of it as a heading is.

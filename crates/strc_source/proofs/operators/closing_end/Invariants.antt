@@ -1,6 +1,6 @@
 use Rattle.std.proofs.Common.{◌≡◌, ◌≤◌, drop}
-use Rattle.strc_places.specs.Operators as spec
-use Rattle.strc_places.proofs.operators.closing_end.Given as goal
+use Rattle.strc_source.specs.Operators as spec
+use Rattle.strc_source.proofs.operators.closing_end.Given as goal
 
 abbrev pub invariant-loop-token : goal.invariant-loop-token
 invariant-loop-token l = record {

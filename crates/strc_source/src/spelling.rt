@@ -1,10 +1,10 @@
 // Places that are marked for what is written there: a name, a keyword, an operator.
 
 ghost use Rattle.std.specs.Prelude.{◌≡◌, ◌↔◌, IsTrue, IfSome, IfNone, take};
-ghost use Rattle.strc_places.specs.Spelling as spec;
+ghost use Rattle.strc_source.specs.Spelling as spec;
 
+use crate::source::Source;
 use strc_base::place::Span;
-use strc_source::source::Source;
 
 /// Whether these are the bytes between the ends of a place.
 pub fn spells(source: Source<'_>, place: Span, bytes: &[u8]) -> bool

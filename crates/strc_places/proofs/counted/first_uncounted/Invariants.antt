@@ -1,0 +1,14 @@
+use Rattle.std.proofs.Common.{◌≡◌, ◌<◌, ◌≤◌, ◌-◌, take, length, true, false}
+use Rattle.strc_places.specs.Statements.{are_counted}
+use Rattle.strc_places.proofs.counted.first_uncounted.Given as goal
+
+abbrev pub invariant-loop-least : goal.invariant-loop-least
+invariant-loop-least l = record {
+  before : are_counted (take l.least l.block) ≡ true;
+  with : are_counted (take l.most l.block) ≡ false;
+  within : l.most ≤ length l.block;
+  apart : l.least < l.most;
+}
+
+abbrev pub decreases-loop-least : goal.decreases-loop-least
+decreases-loop-least l = l.most - l.least
