@@ -1,5 +1,5 @@
 -- What the statements of a block add, whichever way the block is kept.
-use Rattle.std.proofs.Common.{◌≡◌, ℕ, ◌++◌, None, Vec, Global, Option, Some, refl, sym, ap, ◌∙◌}
+use Rattle.std.proofs.Common.{◌≡◌, ℕ, ◌++◌, None, Vec, Global, Option, Some, refl, ap, ◌∙◌}
 use mathlib.Core.Former.{Count}
 use Rattle.std.specs.Option.{option_or}
 use Rattle.strc_base.specs.declared.place.Span.{Span}
@@ -9,8 +9,7 @@ use Rattle.strc_syntax.specs.declared.tree.Stmt.{Stmt, Block, Block', Row_of-Stm
 use Rattle.strc_syntax.specs.declared.tree.Stmt.{more_of-Stmt, items-the_row-Stmt}
 use Rattle.strc_syntax.specs.declared.tree.Stmt.{items_hidden-the_row-Stmt-1}
 use Rattle.strc_syntax.specs.declared.tree.Member.{Member}
-use Rattle.strc_syntax.specs.declared.tree.Child.{Child, Filter, Filter', Composite, Row_of-Member}
-use Rattle.strc_syntax.specs.declared.tree.Child.{end_of-Member}
+use Rattle.strc_syntax.specs.declared.tree.Child.{Filter, Composite}
 use Rattle.strc_syntax.specs.declared.tree.Child.{items_hidden-the_row-Member-0}
 use Rattle.strc_places.specs.Streams.{child_in, child_in_row, child_in_block, child_below}
 use Rattle.strc_places.specs.Streams.{child_members, additions_in, additions_in_row}

@@ -1,5 +1,5 @@
 -- The names of nodes are marked where they are written.
-use Rattle.std.proofs.Common.{◌≡◌, ℕ, List, Option, Some, None, inl, inr, refl}
+use Rattle.std.proofs.Common.{◌≡◌, ℕ, List, Option, Some, None, inr, refl}
 use Rattle.std.specs.Option.{option_map, option_or}
 use Rattle.strc_base.specs.declared.place.Span.{Span}
 use Rattle.strc_lex.specs.declared.token.Token.{Token}

@@ -1,5 +1,5 @@
 -- Which statement can't be counted, by the beginnings of its block.
-use Rattle.std.proofs.Common.{◌≡◌, ℕ, zero, suc, ◌<◌, Bool, true, false, cond, List, [], ◌∷◌, ◌++◌}
+use Rattle.std.proofs.Common.{◌≡◌, ℕ, zero, suc, ◌<◌, true, false, cond, List, [], ◌∷◌, ◌++◌}
 use Rattle.std.proofs.Common.{length, take, get_or, is_some, Option, Some, None, Vec, Global}
 use Rattle.std.proofs.Common.{refl, sym, ap, ◌∙◌, append_assoc, arith}
 use mathlib.Core.Former.{Count}
@@ -10,7 +10,8 @@ use Rattle.strc_syntax.specs.declared.tree.Stmt.{items_hidden-the_row-Stmt-1}
 use Rattle.strc_syntax.specs.View.{stmt_view, row_view, block_view}
 use Rattle.strc_syntax.specs.Tree as tree
 use Rattle.strc_interval.specs.Loops.{Locals, locals_after}
-use Rattle.strc_rate.specs.Counts.{Counts, sequence, stmt_counts, stmts_counts}
+use Rattle.strc_rate.specs.declared.counts.Counts.{Counts}
+use Rattle.strc_rate.specs.Counts.{sequence, stmt_counts, stmts_counts}
 use Rattle.strc_places.specs.Statements.{are_counted, is_counted, uncounted_in, uncounted_row}
 use Rattle.strc_places.specs.Statements.{uncounted_after, uncounted_among}
 
@@ -47,7 +48,7 @@ pub uncounted_is : (here : Option Span) (before rest : List Stmt) (n : ℕ) (x :
     → n < length rest → x ≡ get_or rest n x → are_counted (before ++ take n rest) ≡ true
     → are_counted (before ++ take (suc n) rest) ≡ false
     → uncounted_after here before rest ≡ uncounted_in here x
-uncounted_is here before [] n x within at some none = absurd arith
+uncounted_is here before [] n x within at some none = absurd (omega arith)
 uncounted_is here before (y ∷ rest) zero x within at some none =
     rw none (ap (uncounted_in here) (sym at))
 uncounted_is here before (y ∷ rest) (suc n) x within at some none =

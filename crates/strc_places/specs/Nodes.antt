@@ -1,5 +1,5 @@
 -- Where nodes and channels are marked.
-use Rattle.std.specs.Prelude.{◌≡◌, ◌⊎◌, ℕ, is_some, if◌then◌else◌, List, slice_get}
+use Rattle.std.specs.Prelude.{◌≡◌, ℕ, is_some, if◌then◌else◌, List, slice_get}
 use Rattle.std.specs.Prelude.{Option, Some, None, IfSome}
 use Rattle.strc_base.specs.declared.place.Span.{Span}
 use Rattle.strc_lex.specs.declared.token.Token.{Token}

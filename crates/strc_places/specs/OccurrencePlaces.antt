@@ -1,7 +1,8 @@
 -- Where what can fault so occurs in the text of a filter: of each occurrence, in order of the text,
 -- the place of the innermost statement with a place around it, where there is one.
-use Rattle.std.specs.Prelude.{◌≡◌, List, [], ◌∷◌, ◌++◌, Option, Some, None, All, map}
-use Rattle.std.specs.Prelude.{replicate, slice_get, length}
+use Rattle.std.specs.Prelude.{◌≡◌, ℕ, ◌==◌, Bool, false, List, [], ◌∷◌, ◌++◌, Option, Some, None}
+use Rattle.std.specs.Prelude.{map, replicate, length, if◌then◌else◌}
+use Rattle.std.specs.List.{list_all}
 use Rattle.std.specs.Option.{option_map}
 use Rattle.strc_base.specs.declared.place.Span.{Span}
 use Rattle.strc_syntax.specs.declared.tree.Stmt.{Stmt, Row_of-Stmt, end_of-Stmt, more_of-Stmt}
@@ -89,16 +90,14 @@ abbrev pub HelpersPlacesAreCounted : Type 0
 HelpersPlacesAreCounted = (looked : Sought) (members : List Member)
     → length (helpers_places looked members) ≡ helpers_count looked (map member_view members)
 
--- there is a place, and it begins where this one does
-abbrev pub BeginsAs : Span → Option Span → Type 0
-BeginsAs place None = ⊥
-BeginsAs place (Some other) = other.start ≡ place.start
+-- there is a place, and it begins at this byte of the text
+abbrev pub begins_at : ℕ → Option Span → Bool
+begins_at start None = false
+begins_at start (Some place) = place.start == start
 
 -- the first of these, if all of them begin where it does
-abbrev pub IsSingle : List (Option Span) → Span → Type 0
-IsSingle places place = (slice_get places 0 ≡ Some (Some place)) × All (BeginsAs place) places
-
--- the place that all of these begin at, where there is one
-abbrev pub IsOnly : List (Option Span) → (found : Option Span) → Type 0
-IsOnly places (Some place) = IsSingle places place
-IsOnly places None = (place : Span) → IsSingle places place → ⊥
+abbrev pub single_place : List (Option Span) → Option Span
+single_place [] = None
+single_place (None ∷ rest) = None
+single_place (Some first ∷ rest) =
+    if list_all (begins_at first.start) (Some first ∷ rest) then Some first else None

@@ -29,18 +29,14 @@ use Rattle.strc_check.specs.declared.site.Mismatch.TheVariants as mismatch
 use Rattle.strc_refusal.specs.declared.refusal.Refusal.{Refusal}
 use Rattle.strc_refusal.specs.declared.refusal.Refusal.TheVariants as refusal
 use Rattle.strc_semantics.specs.declared.fault.Cause.{Cause}
-use Rattle.strc_semantics.specs.declared.fault.Cause.TheVariants as cause
 use Rattle.strc_source.specs.Headings.{heading}
 use Rattle.strc_places.specs.declared.moved.Moved.{Moved}
 use Rattle.strc_places.specs.Keywords.{declared_keyword}
 use Rattle.strc_places.specs.Nodes.{MarksName}
-use Rattle.strc_places.specs.Occurrences.{sought_for}
-use Rattle.strc_places.specs.OccurrencePlaces.{IsOnly, start_places, helpers_places}
-use Rattle.strc_places.specs.declared.occurrences.Sought.TheVariants as sought
 use Rattle.strc_source.specs.Operators.{faulting_part}
 use Rattle.strc_source.specs.Spelling.{MarksFrom}
 use Rattle.strc_places.specs.Streams.{IsRecursive}
-use Rattle.strc_places.specs.Statements.{fault_places, uncounted_place, outside_place}
+use Rattle.strc_places.specs.Statements.{fault_place, start_fault_place, uncounted_place, outside_place}
 
 -- the declared rate of a kind: a missing one is 0, and a missing peek rate is the pop rate
 abbrev pub declared_rate : RateKind → Body → Filter → ℤ
@@ -154,23 +150,10 @@ MarksPart text tokens cause name None place = MarksName text tokens name place
 MarksPart text tokens cause name (Some at) place =
     place ≡ Some (faulting_part tokens cause at)
 
--- where what a filter starts with can fault so; only a call in a helper function can be one too many
--- at once
-abbrev pub start_fault_places : Cause → List Member → List (Option Span)
-start_fault_places cause.Calls members = helpers_places sought.Call members
-start_fault_places other members = start_places (sought_for other) members
-
--- the only such place of a filter's members, if there is one
-abbrev pub IsFaultingStart : Cause → Option (List Member) → (statement : Option Span) → Type 0
-IsFaultingStart cause None statement = statement ≡ None
-IsFaultingStart cause (Some members) statement =
-    IsOnly (start_fault_places cause members) statement
-
--- what is marked of a fault of a filter's start: the part of the statement that faults
-abbrev pub MarksStart : List Token → Cause → Option (List Member) → Option Span → Type 0
-MarksStart tokens cause members place = (statement : Option Span)
-    × IsFaultingStart cause members statement
-    × (place ≡ option_map (faulting_part tokens cause) statement)
+-- what is marked of a fault of a filter's start: the part of the only statement that can fault so
+abbrev pub start_part : List Token → Cause → Option (List Member) → Option Span
+start_part tokens cause members = option_map (faulting_part tokens cause)
+    (option_and_then (start_fault_place cause) members)
 
 -- what is marked where a stream adds too many nodes or levels, at a site with this place: the
 -- heading of a statement that adds a stream that leads to the one it stands in, or of what is there
@@ -178,31 +161,23 @@ abbrev pub MarksLevels : List Token → Option Program → (at : Span) → Optio
 MarksLevels tokens program at place = ((statement : Span) × IsRecursive program statement
     × (place ≡ Some (heading statement tokens))) ⊎ (place ≡ Some (heading at tokens))
 
--- what is marked of a fault before the program runs, at a site with this place: the part of the
--- statement that faults of a filter that starts there, or else the heading of what is there
-abbrev pub MarksFault : List Token → Cause → Option (List Member) → (at : Span) → Option Span
-    → Type 0
-MarksFault tokens cause members at place = (statement : Option Span)
-    × IsFaultingStart cause members statement
-    × (place ≡ Some (unwrap_or (option_map (faulting_part tokens cause) statement)
-    (heading at tokens)))
+-- what is marked of a fault before the program runs, at a site with this place: that of the filter
+-- that starts there, or else the heading of what is there
+abbrev pub fault_part : List Token → Cause → Option (List Member) → (at : Span) → Span
+fault_part tokens cause members at =
+    unwrap_or (start_part tokens cause members) (heading at tokens)
 
 -- the name by which the filter of a node is declared
 abbrev pub filter_name : Option Node → Option (List ℕ)
 filter_name (Some (node.Filter instance)) = instance.name
 filter_name _ = None
 
--- the only statement of a node's filter where a firing can fault so, if there is one
-abbrev pub IsFaulting : Cause → Body → Option FilterTree → (statement : Option Span) → Type 0
-IsFaulting cause body None statement = statement ≡ None
-IsFaulting cause body (Some filter) statement = IsOnly (fault_places cause body filter) statement
-
--- what is marked of a fault in a firing of a node, of this body: the part of the statement that
--- faults, or where several can, the name of its filter
+-- what is marked of a fault in a firing of a node, of this body: the part of the only statement that
+-- can fault so, or else the name of its filter
 abbrev pub MarksFaultOf : List ℕ → List Token → Cause → Body → Option Node → Option Span → Type 0
-MarksFaultOf text tokens cause body faulting place = (statement : Option Span)
-    × IsFaulting cause body (node_tree faulting) statement
-    × MarksPart text tokens cause (filter_name faulting) statement place
+MarksFaultOf text tokens cause body faulting place =
+    MarksPart text tokens cause (filter_name faulting)
+    (option_and_then (fault_place cause body) (node_tree faulting)) place
 
 -- the body of a firing with so many before it: the first is the prework, or where there is none the
 -- work

@@ -20,7 +20,9 @@ use Rattle.strc_rate.specs.Peeks.{body_sights}
 use Rattle.strc_rate.specs.contracts.sight.PeekBounds.{the_type as bounds_type}
 use Rattle.strc_rate.specs.declared.sight.PeekBounds.{PeekBounds}
 use Rattle.strc_rate.specs.declared.sight.PeekBounds.TheVariants as bounds
-use Rattle.strc_places.specs.OccurrencePlaces.{block_places, helpers_places}
+use Rattle.strc_places.specs.Occurrences.{sought_for}
+use Rattle.strc_places.specs.OccurrencePlaces.{block_places, start_places, helpers_places}
+use Rattle.strc_places.specs.OccurrencePlaces.{single_place}
 use Rattle.strc_places.specs.declared.occurrences.Sought.{Sought}
 use Rattle.strc_places.specs.declared.occurrences.Sought.TheVariants as sought
 
@@ -63,28 +65,32 @@ abbrev mutual
   pub uncounted_in : Option Span → Stmt → Option Span
   uncounted_in here (stmt.Placed' place at inner) = uncounted_in (Some place) inner
   uncounted_in here (stmt.Block' shape block) = uncounted_row here [] block
-  uncounted_in here (stmt.If' condition at chosen) = uncounted_below here chosen
-  uncounted_in here (stmt.IfElse' condition at chosen at' other) =
-      if is_counted chosen then uncounted_below here other else uncounted_in here chosen
-  uncounted_in here (stmt.While' condition at body) = uncounted_below here body
-  uncounted_in here (stmt.For' at first condition at' step at'' body) = uncounted_below here body
+  uncounted_in here (stmt.If' condition at chosen) =
+      if is_counted chosen then here else uncounted_in here chosen
+  uncounted_in here (stmt.IfElse' condition at chosen at' other) = if is_counted chosen
+      then (if is_counted other then here else uncounted_in here other)
+      else uncounted_in here chosen
+  uncounted_in here (stmt.While' condition at body) =
+      if is_counted body then here else uncounted_in here body
+  uncounted_in here (stmt.For' at first condition at' step at'' body) =
+      if is_counted body then here else uncounted_in here body
   uncounted_in here other = here
-
-  -- in a statement's body; the statement itself, where its body can be counted
-  pub uncounted_below : Option Span → (body : Stmt) → Option Span
-  uncounted_below here body = if is_counted body then here else uncounted_in here body
 
   -- of statements after these, the first with which they can't be counted any more
   pub uncounted_row : Option Span → (before : List Stmt) → {m : _} → Row_of-Stmt m → Option Span
   uncounted_row here before end_of-Stmt = here
-  uncounted_row here before (more_of-Stmt first rest) = if are_counted (before ++ [first])
-      then uncounted_row here (before ++ [first]) rest else uncounted_in here first
+  uncounted_row here before (more_of-Stmt first rest) = if are_counted (before ++ (first ∷ []))
+      then uncounted_row here (before ++ (first ∷ [])) rest else uncounted_in here first
+
+-- in a statement's body; the statement itself, where its body can be counted
+abbrev pub uncounted_below : Option Span → (body : Stmt) → Option Span
+uncounted_below here body = if is_counted body then here else uncounted_in here body
 
 -- of the statements of a block, after these
 abbrev pub uncounted_after : Option Span → (before : List Stmt) → List Stmt → Option Span
 uncounted_after here before [] = here
-uncounted_after here before (first ∷ rest) = if are_counted (before ++ [first])
-    then uncounted_after here (before ++ [first]) rest else uncounted_in here first
+uncounted_after here before (first ∷ rest) = if are_counted (before ++ (first ∷ []))
+    then uncounted_after here (before ++ (first ∷ [])) rest else uncounted_in here first
 
 abbrev pub uncounted_among : Option Span → List Stmt → Option Span
 uncounted_among here block = uncounted_after here [] block
@@ -108,3 +114,16 @@ fault_places cause.Index body filter = firing_places sought.Element body filter
 fault_places cause.PeekRange body filter = peek_places bounds.Open body filter
 fault_places cause.Turns body filter = firing_places sought.Turn body filter
 fault_places cause.Calls body filter = helpers_places sought.Call filter.members.items
+
+-- the only statement where a firing can fault so
+abbrev pub fault_place : Cause → Body → FilterTree → Option Span
+fault_place cause body filter = single_place (fault_places cause body filter)
+
+-- where what a filter starts with can fault so; only a call in a helper function can be one too many
+-- at once
+abbrev pub start_fault_places : Cause → List Member → List (Option Span)
+start_fault_places cause.Calls members = helpers_places sought.Call members
+start_fault_places other members = start_places (sought_for other) members
+
+abbrev pub start_fault_place : Cause → List Member → Option Span
+start_fault_place cause members = single_place (start_fault_places cause members)

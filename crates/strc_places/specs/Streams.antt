@@ -6,9 +6,8 @@ use Rattle.strc_base.specs.declared.place.Span.{Span}
 use Rattle.strc_syntax.specs.declared.tree.Stmt.{Stmt, Row_of-Stmt, end_of-Stmt, more_of-Stmt}
 use Rattle.strc_syntax.specs.declared.tree.Stmt.TheVariants as stmt
 use Rattle.strc_syntax.specs.declared.tree.Member.{Member}
-use Rattle.strc_syntax.specs.declared.tree.Composition.{Composition}
 use Rattle.strc_syntax.specs.declared.tree.Composition.TheVariants as composition
-use Rattle.strc_syntax.specs.declared.tree.Child.{Child, Row_of-Member, items-the_row-Member}
+use Rattle.strc_syntax.specs.declared.tree.Child.{Child, items-the_row-Member}
 use Rattle.strc_syntax.specs.declared.tree.Child.TheVariants as child
 use Rattle.strc_syntax.specs.declared.tree.StreamTree.{StreamTree}
 use Rattle.strc_syntax.specs.declared.tree.StreamTree.TheVariants as stream

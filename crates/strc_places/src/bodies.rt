@@ -1,7 +1,6 @@
 // Places in the bodies of a filter.
 
 ghost use Rattle.std.specs.Prelude.{◌≡◌, ◌++◌, IfOk, OnOk};
-ghost use Rattle.strc_places.specs.OccurrencePlaces.{IsOnly};
 ghost use Rattle.strc_places.specs.Statements as spec;
 
 use crate::counted::{are_counted, uncounted};
@@ -94,7 +93,7 @@ pub fn faulting_statement(
     body: Body,
     cause: Cause,
 ) -> Result<Option<Span>, NoMemory>
-    ensures { IfOk result (IsOnly (spec.fault_places cause body code.now)) }
+    ensures { IfOk result (λ place. place ≡ spec.fault_place cause body code.now) }
 {
     let members = &code.tree().members;
     match cause {

@@ -3,13 +3,14 @@
 
 ghost use Rattle.std.specs.Prelude.{◌≡◌, ◌+◌, ◌++◌, IfOk, IfSome, IfNone, OnOk, None, map};
 ghost use Rattle.std.specs.Prelude.{replicate};
+ghost use Rattle.std.specs.List.{list_all};
 ghost use Rattle.std.specs.Option.{option_map};
 ghost use Rattle.strc_base.specs.declared.place.Span.{Span};
 ghost use Rattle.strc_syntax.specs.View.{expr_view, variable_view, listed_view};
 ghost use Rattle.strc_places.specs.Occurrences as spec;
 ghost use Rattle.strc_places.specs.OccurrencePlaces.{stmt_places, block_places, member_places};
 ghost use Rattle.strc_places.specs.OccurrencePlaces.{start_places, helper_places, helpers_places};
-ghost use Rattle.strc_places.specs.OccurrencePlaces.{IsOnly, BlockPlacesAreCounted};
+ghost use Rattle.strc_places.specs.OccurrencePlaces.{single_place, begins_at, BlockPlacesAreCounted};
 ghost use Rattle.strc_places.specs.OccurrencePlaces.{StartPlacesAreCounted};
 ghost use Rattle.strc_places.specs.OccurrencePlaces.{HelpersPlacesAreCounted};
 ghost use Rattle.strc_places.specs.declared.occurrences.Sought.TheVariants.{Call, Turn};
@@ -294,17 +295,28 @@ pub fn sought_for(cause: Cause) -> Sought
 
 /// The place that all these are.
 pub fn single(places: &[Option<Span>]) -> Option<Span>
-    ensures { IsOnly places.now result }
+    ensures { result ≡ single_place places.now }
 {
     let first = (*places.first()?)?;
-    let is_same = |place: &Option<Span>| match place {
-        Some(place) => place.start == first.start,
-        None => false,
-    };
-    if places.iter().all(is_same) {
+    if all_begin_at(places, first.start) {
         Some(first)
     } else {
         None
+    }
+}
+
+fn all_begin_at(places: &[Option<Span>], start: usize) -> bool
+    ensures { result ≡ list_all (begins_at start) places.now }
+{
+    places.iter().all(|place| is_begun_at(*place, start))
+}
+
+fn is_begun_at(place: Option<Span>, start: usize) -> bool
+    ensures { result ≡ begins_at start place }
+{
+    match place {
+        Some(place) => place.start == start,
+        None => false,
     }
 }
 

@@ -110,9 +110,9 @@ pub fn place_of_refusal(
     // that can fault so where the filter starts, or else the heading of the site's.
     ensures fault { (cause : Cause) (at : Span) → refusal.now ≡ refused_for.ConstFault cause
         → refused.lacks_part site.mismatch ≡ false → site.place ≡ Some at
-        → IfOk result (refused.MarksFault known.entry.source.tokens.now cause
-        (streams.members_at known.entry.source.text.now
-        (option_map (λ p. p.now) known.entry.program) at) at) }
+        → IfOk result (λ place. place ≡ Some (refused.fault_part
+        known.entry.source.tokens.now cause (streams.members_at known.entry.source.text.now
+        (option_map (λ p. p.now) known.entry.program) at) at)) }
     // Of a main stream that is asked for and declared a place is marked where its name is written.
     ensures asked { refusal.now ≡ refused_for.NoMain → IfSome known.entry.source.main (λ name.
         IfOk result (λ place. spelling.Marks known.entry.source.text.now
@@ -268,9 +268,9 @@ fn place_of_fault(
     cause: Cause,
 ) -> Result<Option<Span>, NoMemory>
     ensures { (at : Span) → refused.lacks_part site.mismatch ≡ false → site.place ≡ Some at
-        → IfOk result (refused.MarksFault known.entry.source.tokens.now cause
-        (streams.members_at known.entry.source.text.now
-        (option_map (λ p. p.now) known.entry.program) at) at) }
+        → IfOk result (λ place. place ≡ Some (refused.fault_part
+        known.entry.source.tokens.now cause (streams.members_at known.entry.source.text.now
+        (option_map (λ p. p.now) known.entry.program) at) at)) }
 {
     if let Some(place) = site.place {
         if let Some(start) = faulting_start(known, place, cause)? {

@@ -23,7 +23,7 @@ pub fn faulting_start(
     filter: Span,
     cause: Cause,
 ) -> Result<Option<Span>, NoMemory>
-    ensures { IfOk result (refused.MarksStart known.entry.source.tokens.now cause
+    ensures { IfOk result (λ place. place ≡ refused.start_part known.entry.source.tokens.now cause
         (streams.members_at known.entry.source.text.now
         (option_map (λ p. p.now) known.entry.program) filter)) }
 {

@@ -2,13 +2,13 @@ use Rattle.std.proofs.Common.{◌≡◌, ◌<◌, ◌≤◌, ◌-◌, take, leng
 use Rattle.strc_places.specs.Statements.{are_counted}
 use Rattle.strc_places.proofs.counted.first_uncounted.Given as goal
 
-abbrev pub invariant-loop-least : goal.invariant-loop-least
-invariant-loop-least l = record {
+abbrev pub invariant-loop-most : goal.invariant-loop-most
+invariant-loop-most l = record {
   before : are_counted (take l.least l.block) ≡ true;
   with : are_counted (take l.most l.block) ≡ false;
   within : l.most ≤ length l.block;
   apart : l.least < l.most;
 }
 
-abbrev pub decreases-loop-least : goal.decreases-loop-least
-decreases-loop-least l = l.most - l.least
+abbrev pub decreases-loop-most : goal.decreases-loop-most
+decreases-loop-most l = l.most - l.least
