@@ -9,9 +9,12 @@ use Rattle.strc_syntax.specs.declared.tree.Stmt.{Stmt, Block, Block', Row_of-Stm
 use Rattle.strc_syntax.specs.declared.tree.Stmt.{more_of-Stmt, items-the_row-Stmt}
 use Rattle.strc_syntax.specs.declared.tree.Stmt.{items_hidden-the_row-Stmt-1}
 use Rattle.strc_syntax.specs.declared.tree.Member.{Member}
+use Rattle.strc_syntax.specs.declared.tree.Program.{Program}
+use Rattle.strc_check.specs.declared.site.Part.{Part}
 use Rattle.strc_syntax.specs.declared.tree.Child.{Filter, Composite}
 use Rattle.strc_syntax.specs.declared.tree.Child.{items_hidden-the_row-Member-0}
 use Rattle.strc_places.specs.Streams.{child_in, child_in_row, child_in_block, child_below}
+use Rattle.strc_places.specs.Streams.{part_in, part_in_row, part_in_block, child_block}
 use Rattle.strc_places.specs.Streams.{child_members, additions_in, additions_in_row}
 use Rattle.strc_places.specs.Streams.{additions_in_block, additions_below}
 
@@ -64,3 +67,20 @@ pub additions_below-Composite : (here : Option Span) (types : Option StreamType)
     (kind : CompositeKind) (body : Vec Stmt Global)
     → additions_below here (Composite types kind body) ≡ additions_in_block body.items
 additions_below-Composite here types kind body = additions_kept body
+
+part_items : (sought : Part) (n : _) (kept : Row_of-Stmt n)
+    → part_in_row sought kept ≡ part_in_block sought (items-the_row-Stmt n kept)
+part_items sought n end_of-Stmt = refl
+part_items sought n (more_of-Stmt first rest) =
+    ap (λ found. option_or (part_in sought first) found) (part_items sought _ rest)
+
+pub part_in-Block : (sought : Part) (body : Vec Stmt Global)
+    → part_in sought (Block body) ≡ part_in_block sought body.items
+part_in-Block sought body =
+    let kept = kept_row (Block body) in part_items sought kept.0 kept.1
+    ∙ ap (part_in_block sought) (items_hidden-the_row-Stmt-1 body)
+
+pub child_block-Composite : (program : Option Program) (types : Option StreamType)
+    (kind : CompositeKind) (body : Vec Stmt Global)
+    → child_block program (Composite types kind body) ≡ Some body.items
+child_block-Composite program types kind body = ap Some (items_hidden-the_row-Stmt-1 body)

@@ -1,11 +1,9 @@
 -- The names of nodes are marked where they are written.
 use Rattle.std.proofs.Common.{◌≡◌, ℕ, List, Option, Some, None, inr, refl}
-use Rattle.std.specs.Option.{option_map, option_or}
+use Rattle.std.specs.Option.{option_or}
 use Rattle.strc_base.specs.declared.place.Span.{Span}
 use Rattle.strc_lex.specs.declared.token.Token.{Token}
-use Rattle.strc_source.specs.Headings.{heading}
-use Rattle.strc_source.specs.declared.preorder.Preorder.{Preorder}
-use Rattle.strc_places.specs.Nodes.{MarksName, MarksStatement, declared_name, first_name}
+use Rattle.strc_places.specs.Nodes.{MarksName, MarksNode, MarksStatement, first_name, heading_of}
 use Rattle.strc_source.specs.Spelling.{Marks}
 
 -- where no token is spelled so any place will do
@@ -14,33 +12,61 @@ still : (text : List ℕ) (tokens : List Token) (bytes : List ℕ) (place : Opti
 still text tokens bytes None unwritten = unwritten
 still text tokens bytes (Some place) unwritten = inr unwritten
 
-pub marks_still : (text : List ℕ) (tokens : List Token) (name : Option (List ℕ))
-    (place : Option Span) → MarksName text tokens name None → MarksName text tokens name place
-marks_still text tokens None place marks = marks
-marks_still text tokens (Some bytes) place marks = still text tokens bytes place marks
+-- a name is marked
+pub named_marked : (text : List ℕ) (tokens : List Token) (name : Option (List ℕ))
+    (statement : Option Span) (place : Span) → (name ≡ None → Some place ≡ None)
+    → MarksName text tokens name (Some place) → MarksNode text tokens name statement (Some place)
+named_marked text tokens None statement place unnamed marks = let no = unnamed refl in absurd cc
+named_marked text tokens (Some bytes) statement place unnamed marks = marks
+
+-- a statement is marked, where a name is none or unwritten
+pub stated_marked : (text : List ℕ) (tokens : List Token) (name : Option (List ℕ))
+    (statement place : Option Span) → MarksName text tokens name None
+    → place ≡ heading_of tokens statement → MarksNode text tokens name statement place
+stated_marked text tokens None statement place unwritten is = is
+stated_marked text tokens (Some bytes) statement place unwritten is =
+    still text tokens bytes place unwritten
 
 -- the source of a channel has a name that is marked
 pub source_marked : (text : List ℕ) (tokens : List Token) (source target : Option (List ℕ))
-    (place : Span) → (source ≡ None → Some place ≡ None)
+    (statement : Option Span) (place : Span) → (source ≡ None → Some place ≡ None)
     → MarksName text tokens source (Some place)
-    → MarksName text tokens (first_name source target) (Some place)
-source_marked text tokens None target place unnamed marks = let no = unnamed refl in absurd cc
-source_marked text tokens (Some bytes) target place unnamed marks = marks
+    → MarksNode text tokens (first_name source target) statement (Some place)
+source_marked text tokens None target statement place unnamed marks =
+    let no = unnamed refl in absurd cc
+source_marked text tokens (Some bytes) target statement place unnamed marks = marks
 
 -- its source has none that is written, and that of its target is marked
 pub target_marked : (text : List ℕ) (tokens : List Token) (source target : Option (List ℕ))
-    (place : Option Span) → MarksName text tokens source None
-    → MarksName text tokens target place
-    → MarksName text tokens (first_name source target) place
-target_marked text tokens None target place unwritten marks = marks
-target_marked text tokens (Some bytes) target place unwritten marks =
+    (statement : Option Span) (place : Span) → MarksName text tokens source None
+    → (target ≡ None → Some place ≡ None) → MarksName text tokens target (Some place)
+    → MarksNode text tokens (first_name source target) statement (Some place)
+target_marked text tokens None target statement place unwritten unnamed marks =
+    named_marked text tokens target statement place unnamed marks
+target_marked text tokens (Some bytes) target statement place unwritten unnamed marks =
+    still text tokens bytes (Some place) unwritten
+
+-- neither has, and a statement is marked
+pub neither_marked : (text : List ℕ) (tokens : List Token) (source target : Option (List ℕ))
+    (statement place : Option Span) → MarksName text tokens source None
+    → MarksName text tokens target None → place ≡ heading_of tokens statement
+    → MarksNode text tokens (first_name source target) statement place
+neither_marked text tokens None target statement place unwritten other is =
+    stated_marked text tokens target statement place other is
+neither_marked text tokens (Some bytes) target statement place unwritten other is =
     still text tokens bytes place unwritten
 
--- a statement, or else the node's name
-pub marks_statement : (text : List ℕ) (tokens : List Token) (order : Option Preorder) (node : ℕ)
-    (statement name : Option Span)
-    → MarksName text tokens (declared_name order node) name
-    → MarksStatement text tokens order node statement
-    (option_or (option_map (λ at. heading at tokens) statement) name)
-marks_statement text tokens order node None name marks = marks
-marks_statement text tokens order node (Some at) name marks = refl
+-- the heading of the first statement that there is
+pub first_heading : (tokens : List Token) (first second : Option Span)
+    → option_or (heading_of tokens first) (heading_of tokens second)
+    ≡ heading_of tokens (option_or first second)
+first_heading tokens None second = refl
+first_heading tokens (Some at) second = refl
+
+-- a statement, or else the node
+pub marks_statement : (text : List ℕ) (tokens : List Token) (found : Option Span)
+    (name : Option (List ℕ)) (statement node : Option Span)
+    → MarksNode text tokens name statement node
+    → MarksStatement text tokens found name statement (option_or (heading_of tokens found) node)
+marks_statement text tokens None name statement node marks = marks
+marks_statement text tokens (Some at) name statement node marks = refl

@@ -1,9 +1,7 @@
--- Parts of a program that messages speak of: its declarations, the statements of a composite
--- stream, the ends of a channel.
+-- Parts of a program that messages speak of: its declarations, and the ends of a channel.
 use Rattle.std.specs.Prelude.{ℕ, ◌≢◌, List, [], All, Option, Some, None, slice_get}
 use Rattle.std.specs.Option.{option_map}
 use Rattle.strc_graph.specs.NodeView.{GraphParts}
-use Rattle.strc_syntax.specs.Tree as tree
 use Rattle.strc_syntax.specs.declared.tree.Decl.{Decl}
 use Rattle.strc_syntax.specs.declared.tree.Program.{Program}
 
@@ -15,11 +13,6 @@ declarations_of (Some program) = program.declarations.items
 -- no declaration is of this name
 abbrev pub IsUndeclared : Option Program → List ℕ → Type 0
 IsUndeclared program name = All (λ declaration. declaration.name ≢ name) (declarations_of program)
-
--- the statements of a composite stream
-abbrev pub composite_block : tree.Stream → Option tree.Stmts
-composite_block (tree.Filter input output members) = None
-composite_block (tree.Composite types kind block) = Some block
 
 -- the nodes at the two ends of a channel
 abbrev pub ends_of : Option GraphParts → ℕ → Option (ℕ × ℕ)

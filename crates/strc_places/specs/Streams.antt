@@ -1,9 +1,10 @@
 -- Which streams the statements of a text add, by the places of these statements.
 use Rattle.std.specs.Prelude.{◌≡◌, ℕ, ◌==◌, bytes_eq, List, [], ◌∷◌, ◌++◌, Option, Some, None, find}
-use Rattle.std.specs.Prelude.{if◌then◌else◌, Any}
+use Rattle.std.specs.Prelude.{if◌then◌else◌, Any, Bool, true, false}
 use Rattle.std.specs.Option.{option_or, option_and_then}
 use Rattle.strc_base.specs.declared.place.Span.{Span}
 use Rattle.strc_syntax.specs.declared.tree.Stmt.{Stmt, Row_of-Stmt, end_of-Stmt, more_of-Stmt}
+use Rattle.strc_syntax.specs.declared.tree.Stmt.{items-the_row-Stmt}
 use Rattle.strc_syntax.specs.declared.tree.Stmt.TheVariants as stmt
 use Rattle.strc_syntax.specs.declared.tree.Member.{Member}
 use Rattle.strc_syntax.specs.declared.tree.Composition.TheVariants as composition
@@ -13,6 +14,10 @@ use Rattle.strc_syntax.specs.declared.tree.StreamTree.{StreamTree}
 use Rattle.strc_syntax.specs.declared.tree.StreamTree.TheVariants as stream
 use Rattle.strc_syntax.specs.declared.tree.Decl.{Decl}
 use Rattle.strc_syntax.specs.declared.tree.Program.{Program}
+use Rattle.strc_syntax.specs.View.{declaration_view}
+use Rattle.strc_statements.specs.MainStreams.{can_be_main}
+use Rattle.strc_check.specs.declared.site.Part.{Part}
+use Rattle.strc_check.specs.declared.site.Part.TheVariants as part
 use Rattle.strc_places.specs.Parts.{declarations_of}
 use Rattle.strc_source.specs.Spelling.{between}
 
@@ -80,6 +85,70 @@ members_of (Some declaration) added = stream_members declaration.stream
 abbrev pub members_at : (text : List ℕ) → Option Program → Span → Option (List Member)
 members_at text program place = members_of (declared_as (between text place) program)
     (child_added place.start (declarations_of program))
+
+-- the statements of a composite stream
+abbrev pub stream_block : StreamTree → Option (List Stmt)
+stream_block (stream.Filter filter) = None
+stream_block (stream.Composite composite) = Some composite.block.items
+
+abbrev pub declared_block : Option Decl → Option (List Stmt)
+declared_block None = None
+declared_block (Some declaration) = stream_block declaration.stream
+
+-- of the one that a child is
+abbrev pub child_block : Option Program → Child → Option (List Stmt)
+child_block program (child.Named name arguments) = declared_block (declared_as name program)
+child_block program (child.Composite' types kind shape block) =
+    Some (items-the_row-Stmt _ block)
+child_block program other = None
+
+-- the main stream: the one that is asked for, or else the first that can be it
+abbrev pub main_of : (asked : Option (List ℕ)) → Option Program → Option Decl
+main_of (Some name) program = declared_as name program
+main_of None program =
+    find (λ declaration. can_be_main (declaration_view declaration)) (declarations_of program)
+
+-- of the composite stream that a statement adds, and without a statement of the main stream
+abbrev pub block_added : (asked : Option (List ℕ)) → Option Program → (added : Option Span)
+    → Option (List Stmt)
+block_added asked program None = declared_block (main_of asked program)
+block_added asked program (Some place) = option_and_then (child_block program)
+    (child_added place.start (declarations_of program))
+
+-- a statement is a `split`, or a `join`
+abbrev pub is_part : Part → Stmt → Bool
+is_part part.Split (stmt.Compose (composition.Split splitter)) = true
+is_part part.Join (stmt.Compose (composition.Join weights)) = true
+is_part sought other = false
+
+abbrev mutual
+  -- the first such statement in one, without those of children
+  pub part_in : Part → Stmt → Option Span
+  part_in sought (stmt.Placed' place at inner) =
+      if is_part sought inner then Some place else part_in sought inner
+  part_in sought (stmt.Block' shape block) = part_in_row sought block
+  part_in sought (stmt.If' condition at chosen) = part_in sought chosen
+  part_in sought (stmt.IfElse' condition at chosen at' other) =
+      option_or (part_in sought chosen) (part_in sought other)
+  part_in sought (stmt.While' condition at body) = part_in sought body
+  part_in sought (stmt.For' at first condition at' step at'' body) = part_in sought body
+  part_in sought other = None
+
+  pub part_in_row : Part → {m : _} → Row_of-Stmt m → Option Span
+  part_in_row sought end_of-Stmt = None
+  part_in_row sought (more_of-Stmt first rest) =
+      option_or (part_in sought first) (part_in_row sought rest)
+
+abbrev pub part_in_block : Part → List Stmt → Option Span
+part_in_block sought [] = None
+part_in_block sought (first ∷ rest) =
+    option_or (part_in sought first) (part_in_block sought rest)
+
+-- the first `split` or `join` of the composite stream that a statement adds
+abbrev pub part_statement : (asked : Option (List ℕ)) → Option Program → (added : Option Span)
+    → Part → Option Span
+part_statement asked program added sought =
+    option_and_then (part_in_block sought) (block_added asked program added)
 
 -- a declared stream that is added by a statement with a place: the place, and the stream's name
 abbrev pub named_at : (here : Option Span) → List ℕ → List (Span × List ℕ)

@@ -3,8 +3,6 @@
 
 ghost use Rattle.std.specs.Prelude.{◌≡◌};
 ghost use Rattle.std.specs.Option.{option_map};
-ghost use Rattle.strc_syntax.specs.View.{block_view, stream_view};
-ghost use Rattle.strc_places.specs.Parts as spec;
 ghost use Rattle.strc_places.specs.Streams as streams;
 
 use crate::known::Known;
@@ -14,18 +12,34 @@ use strc_syntax::tree::{Child, Composition, Decl, Stmt, StreamTree};
 
 /// The first `split` or `join` of the composite stream that a statement adds; without a statement
 /// of the main stream.
-pub fn part_statement(known: Known<'_>, added: Option<Span>, part: Part) -> Option<Span> {
-    let block = match added {
-        Some(place) => block_added(known, place)?,
-        None => block_of(known.main()?)?,
-    };
-    part_in_block(block, part)
+pub fn part_statement(known: Known<'_>, added: Option<Span>, part: Part) -> Option<Span>
+    ensures { result ≡ streams.part_statement (option_map (λ m. m.now) known.entry.source.main)
+        (option_map (λ p. p.now) known.entry.program) added part }
+{
+    part_in_block(block_added(known, added)?, part)
 }
 
 /// The block of the composite stream that a statement adds.
-fn block_added<'a>(known: Known<'a>, place: Span) -> Option<&'a [Stmt]> {
-    match child_added(known.declarations(), place.start)? {
-        Child::Named(name, _) => block_of(known.declaration_named(name.as_bytes())?),
+fn block_added<'a>(known: Known<'a>, added: Option<Span>) -> Option<&'a [Stmt]>
+    ensures { option_map (λ b. b.now) result
+        ≡ streams.block_added (option_map (λ m. m.now) known.entry.source.main)
+        (option_map (λ p. p.now) known.entry.program) added }
+{
+    match added {
+        Some(place) => block_of_child(known, child_added(known.declarations(), place.start)?),
+        None => block_of_stream(&known.main()?.stream),
+    }
+}
+
+/// The block of the composite stream that a child is.
+fn block_of_child<'a>(known: Known<'a>, child: &'a Child) -> Option<&'a [Stmt]>
+    ensures { option_map (λ b. b.now) result
+        ≡ streams.child_block (option_map (λ p. p.now) known.entry.program) child.now }
+{
+    match child {
+        Child::Named(name, _) => {
+            block_of_stream(&known.declaration_named(name.as_bytes())?.stream)
+        }
         Child::Composite(_, _, block) => Some(block),
         Child::Identity(_) | Child::FileReader(_) | Child::FileWriter(_) | Child::Filter(_, _) => {
             None
@@ -33,12 +47,11 @@ fn block_added<'a>(known: Known<'a>, place: Span) -> Option<&'a [Stmt]> {
     }
 }
 
-/// The block of a declared composite stream.
-pub fn block_of(declaration: &Decl) -> Option<&[Stmt]>
-    ensures { option_map (λ b. block_view b.now) result
-        ≡ spec.composite_block (stream_view declaration.now.stream) }
+/// The block of a composite stream.
+fn block_of_stream(stream: &StreamTree) -> Option<&[Stmt]>
+    ensures { option_map (λ b. b.now) result ≡ streams.stream_block stream.now }
 {
-    match &declaration.stream {
+    match stream {
         StreamTree::Composite(composite) => Some(&composite.block),
         StreamTree::Filter(_) => None,
     }
@@ -157,7 +170,9 @@ fn child_of(statement: &Stmt) -> Option<&Child>
 }
 
 #[cycle(part)]
-fn part_in_block(block: &[Stmt], part: Part) -> Option<Span> {
+fn part_in_block(block: &[Stmt], part: Part) -> Option<Span>
+    ensures { result ≡ streams.part_in_block part block.now }
+{
     for statement in block {
         if let Some(place) = part_in(statement, part) {
             return Some(place);
@@ -168,7 +183,9 @@ fn part_in_block(block: &[Stmt], part: Part) -> Option<Span> {
 
 /// The first `split` or `join` in a statement, without those of children.
 #[cycle(part)]
-fn part_in(statement: &Stmt, part: Part) -> Option<Span> {
+fn part_in(statement: &Stmt, part: Part) -> Option<Span>
+    ensures { result ≡ streams.part_in part statement.now }
+{
     match statement {
         Stmt::Placed(place, inner) => {
             if is_part(inner, part) {
@@ -185,14 +202,25 @@ fn part_in(statement: &Stmt, part: Part) -> Option<Span> {
             Some(place) => Some(place),
             None => part_in(other, part),
         },
-        _ => None,
+        Stmt::Empty
+        | Stmt::Declare(_)
+        | Stmt::Evaluate(_)
+        | Stmt::Assign(_, _, _)
+        | Stmt::AssignElement(_, _, _, _)
+        | Stmt::Push(_)
+        | Stmt::Print(_)
+        | Stmt::Println(_)
+        | Stmt::Return(_)
+        | Stmt::Compose(_) => None,
     }
 }
 
-fn is_part(statement: &Stmt, part: Part) -> bool {
-    match statement {
-        Stmt::Compose(Composition::Split(_)) => part == Part::Split,
-        Stmt::Compose(Composition::Join(_)) => part == Part::Join,
+fn is_part(statement: &Stmt, part: Part) -> bool
+    ensures { result ≡ streams.is_part part statement.now }
+{
+    match (statement, part) {
+        (Stmt::Compose(Composition::Split(_)), Part::Split)
+        | (Stmt::Compose(Composition::Join(_)), Part::Join) => true,
         _ => false,
     }
 }

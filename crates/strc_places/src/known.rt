@@ -1,5 +1,10 @@
 // What is known of a program that a message is about.
 
+ghost use Rattle.std.specs.Prelude.{◌≡◌, find};
+ghost use Rattle.std.specs.Option.{option_map};
+ghost use Rattle.strc_syntax.specs.View.{declaration_view};
+ghost use Rattle.strc_statements.specs.MainStreams.{can_be_main};
+
 use std::alloc::Global;
 use strc_base::place::Span;
 use strc_graph::graph::Graph;
@@ -25,7 +30,7 @@ impl<'a> Known<'a> {
     ghost use Rattle.std.specs.Option.{option_map};
     ghost use Rattle.strc_places.specs.Parts as parts;
     ghost use Rattle.strc_source.specs.Spelling as spelling;
-    ghost use Rattle.strc_places.specs.Streams.{declared_as};
+    ghost use Rattle.strc_places.specs.Streams.{declared_as, main_of};
 
     /// The declarations of the program; none where it has no tree.
     pub fn declarations(self) -> &'a [Decl]
@@ -66,10 +71,22 @@ impl<'a> Known<'a> {
     }
 
     /// The main stream: the one that is asked for, or else the first that can be it.
-    pub fn main(self) -> Option<&'a Decl> {
+    pub fn main(self) -> Option<&'a Decl>
+        ensures { option_map (λ d. d.now) result
+            ≡ main_of (option_map (λ m. m.now) self.entry.source.main)
+            (option_map (λ p. p.now) self.entry.program) }
+    {
         match self.source.main {
             Some(name) => self.declaration_named(name.as_bytes()),
-            None => self.declarations().iter().find(|it| can_be_main(it)),
+            None => first_main(self.declarations()),
         }
     }
+}
+
+/// The first declaration that can be the main stream.
+fn first_main(declarations: &[Decl]) -> Option<&Decl>
+    ensures { option_map (λ d. d.now) result
+        ≡ find (λ declaration. can_be_main (declaration_view declaration)) declarations.now }
+{
+    declarations.iter().find(|it| can_be_main(it))
 }

@@ -9,7 +9,8 @@
 // heading, and of one that faults the one operator that can (`faulting_part`). Which statement that
 // is says `uncounted_statement` of one that can't be counted, `peek_outside` of one that looks too
 // far, `recursive_statement` of one that adds its own stream, `faulting_statement` and
-// `faulting_start` of the only one that can fault so; of other refusals it is the site's.
+// `faulting_start` of the only one that can fault so, and `statement_of` of a node's; of other
+// refusals it is the site's.
 // Stands on strc_source, which knows the text's tokens and the stream's nodes, on strc_refusal,
 // whose refusals these are, on strc_statements, which says what can be the main stream, on
 // strc_stream, strc_graph and strc_code, whose filters know their text, on strc_rate and

@@ -77,24 +77,34 @@ pub fn place_of_refusal(
         → IfOk result (λ place. spelling.MarksFrom known.entry.source.text.now
         known.entry.source.tokens.now (keyword_text (keywords.kind_keyword kind)) place) }
     // Of the innermost statement that can't be counted, and of the first with a peek outside of its
-    // window, the heading is marked; without one the name of the filter.
+    // window, the heading is marked; without one the name of the filter where it is declared.
     ensures uncounted { (node : ℕ) → refusal.now ≡ refused_for.RateUnknown node
         → IfOk result (nodes.MarksStatement known.entry.source.text.now
-        known.entry.source.tokens.now (option_map (λ n. n.now) known.entry.nodes) node
-        (refused.uncounted_at (option_map (λ g. g.now) known.entry.graph) node)) }
+        known.entry.source.tokens.now
+        (refused.uncounted_at (option_map (λ g. g.now) known.entry.graph) node)
+        (nodes.declared_name (option_map (λ n. n.now) known.entry.nodes) node)
+        (nodes.node_statement (option_map (λ m. m.now) known.entry.source.main)
+        (option_map (λ p. p.now) known.entry.program)
+        (option_map (λ n. n.now) known.entry.nodes) node)) }
     ensures outside { (node : ℕ) → refusal.now ≡ refused_for.PeekOutside node
         → IfOk result (nodes.MarksStatement known.entry.source.text.now
-        known.entry.source.tokens.now (option_map (λ n. n.now) known.entry.nodes) node
-        (refused.outside_at (option_map (λ g. g.now) known.entry.graph) node)) }
+        known.entry.source.tokens.now
+        (refused.outside_at (option_map (λ g. g.now) known.entry.graph) node)
+        (nodes.declared_name (option_map (λ n. n.now) known.entry.nodes) node)
+        (nodes.node_statement (option_map (λ m. m.now) known.entry.source.main)
+        (option_map (λ p. p.now) known.entry.program)
+        (option_map (λ n. n.now) known.entry.nodes) node)) }
     // Of a channel the name of the filter at its source is marked where it is written, or else that
     // of the one at its target.
     ensures inconsistent { (channel : ℕ) → refusal.now ≡ refused_for.Inconsistent channel
         → IfOk result (nodes.MarksChannel known.entry.source.text.now
-        known.entry.source.tokens.now (option_map (λ n. n.now) known.entry.nodes)
+        known.entry.source.tokens.now (option_map (λ m. m.now) known.entry.source.main)
+        (option_map (λ p. p.now) known.entry.program) (option_map (λ n. n.now) known.entry.nodes)
         (parts.ends_of (option_map (λ g. g.now) known.entry.graph) channel)) }
     ensures buffer { (channel : ℕ) → refusal.now ≡ refused_for.BufferLimit channel
         → IfOk result (nodes.MarksChannel known.entry.source.text.now
-        known.entry.source.tokens.now (option_map (λ n. n.now) known.entry.nodes)
+        known.entry.source.tokens.now (option_map (λ m. m.now) known.entry.source.main)
+        (option_map (λ p. p.now) known.entry.program) (option_map (λ n. n.now) known.entry.nodes)
         (parts.ends_of (option_map (λ g. g.now) known.entry.graph) channel)) }
     // Of a statement that breaks a rule its heading is marked.
     ensures statement { (at : Span) → refused.is_of_statement refusal.now ≡ true
@@ -193,12 +203,20 @@ fn place_in_filter(
 ) -> Result<Option<Span>, NoMemory>
     ensures uncounted { (number : ℕ) → refusal.now ≡ refused_for.RateUnknown number
         → IfOk result (nodes.MarksStatement known.entry.source.text.now
-        known.entry.source.tokens.now (option_map (λ n. n.now) known.entry.nodes) node
-        (refused.uncounted_at (option_map (λ g. g.now) known.entry.graph) node)) }
+        known.entry.source.tokens.now
+        (refused.uncounted_at (option_map (λ g. g.now) known.entry.graph) node)
+        (nodes.declared_name (option_map (λ n. n.now) known.entry.nodes) node)
+        (nodes.node_statement (option_map (λ m. m.now) known.entry.source.main)
+        (option_map (λ p. p.now) known.entry.program)
+        (option_map (λ n. n.now) known.entry.nodes) node)) }
     ensures outside { (number : ℕ) → refusal.now ≡ refused_for.PeekOutside number
         → IfOk result (nodes.MarksStatement known.entry.source.text.now
-        known.entry.source.tokens.now (option_map (λ n. n.now) known.entry.nodes) node
-        (refused.outside_at (option_map (λ g. g.now) known.entry.graph) node)) }
+        known.entry.source.tokens.now
+        (refused.outside_at (option_map (λ g. g.now) known.entry.graph) node)
+        (nodes.declared_name (option_map (λ n. n.now) known.entry.nodes) node)
+        (nodes.node_statement (option_map (λ m. m.now) known.entry.source.main)
+        (option_map (λ p. p.now) known.entry.program)
+        (option_map (λ n. n.now) known.entry.nodes) node)) }
 {
     let filter = place_of_node(known, node);
     let Some(code) = code_of(known, node) else {
