@@ -1,6 +1,6 @@
 // What a person reads of a run that ends early, or that isn't run.
 
-ghost use Rattle.std.specs.Prelude.{[], codes, IfOk, slice_get};
+ghost use Rattle.std.specs.Prelude.{◌≡◌, [], codes, IfOk, slice_get};
 ghost use Rattle.strc_places.specs.Nodes.{MarksName};
 ghost use Rattle.strc_places.specs.Refused as spec;
 ghost use Rattle.strc_places.specs.Refused.{MarksFaultOf};
