@@ -80,7 +80,7 @@ pub fn place_of_channel(known: Known<'_>, channel: usize) -> Option<Span>
 }
 
 /// The declaration of the first of two nodes that has one, or else the statement of one.
-#[tactic(auto, using(crate::proofs::Naming::source_marked, crate::proofs::Naming::target_marked, crate::proofs::Naming::neither_marked, crate::proofs::Naming::first_heading))]
+#[tactic(auto, using(crate::proofs::Naming::source_marked, crate::proofs::Naming::target_marked))]
 fn place_of_ends(known: Known<'_>, from: usize, to: usize) -> Option<Span>
     ensures { nodes.MarksNode known.entry.source.text.now known.entry.source.tokens.now
         (nodes.first_name (nodes.declared_name (option_map (λ n. n.now) known.entry.nodes) from)

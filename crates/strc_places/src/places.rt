@@ -116,8 +116,8 @@ pub fn place_of_refusal(
         → refused.lacks_part site.mismatch ≡ false → site.place ≡ Some at
         → IfOk result (refused.MarksLevels known.entry.source.tokens.now
         (option_map (λ p. p.now) known.entry.program) at) }
-    // Of a fault before the program runs the operator or the heading of the only statement is marked
-    // that can fault so where the filter starts, or else the heading of the site's.
+    // Of a fault before the program runs the operator or the heading is marked of the only
+    // statement that can fault so where the filter starts, or else the heading of the site's.
     ensures fault { (cause : Cause) (at : Span) → refusal.now ≡ refused_for.ConstFault cause
         → refused.lacks_part site.mismatch ≡ false → site.place ≡ Some at
         → IfOk result (λ place. place ≡ Some (refused.fault_part
