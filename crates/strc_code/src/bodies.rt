@@ -64,7 +64,8 @@ fn prework_rates(members: &[Member]) -> Option<&[RateTree]>
 /// The block of a body; without a prework each body is the work.
 pub fn block_of(members: &[Member], body: Body) -> &[Stmt]
     ensures placed { result.now ≡ body_statements body members.now }
-    ensures statements { block_view result.now ≡ filters.body_block body (filters.members_of members.now) }
+    ensures statements { block_view result.now
+        ≡ filters.body_block body (filters.members_of members.now) }
 {
     match body {
         Body::Prework => match prework_block(members) {
@@ -78,7 +79,8 @@ pub fn block_of(members: &[Member], body: Body) -> &[Stmt]
 /// The block of the first work.
 fn work_block(members: &[Member]) -> &[Stmt]
     ensures placed { result.now ≡ work_statements members.now }
-    ensures statements { block_view result.now ≡ filters.work_block (filters.members_of members.now) }
+    ensures statements { block_view result.now
+        ≡ filters.work_block (filters.members_of members.now) }
 {
     for member in members {
         match member {
