@@ -1,6 +1,8 @@
 pub mod TypedGrowth
 pub mod Members
 pub mod Resolved
+pub mod RefusedPlaces
+pub mod PlacesOfMembers
 pub mod ResolvingExpressions
 pub mod Unanswered
 pub mod ResolvingStatements

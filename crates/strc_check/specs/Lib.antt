@@ -1,3 +1,4 @@
 pub mod Signatures
 pub mod Resolution
 pub mod Verdicts
+pub mod RefusedPlaces

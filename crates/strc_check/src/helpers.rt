@@ -1,10 +1,11 @@
 // The rules on helper functions.
 
-ghost use Rattle.std.specs.Prelude.{◌≡◌, ℕ, List, OnOk, ◌∷◌, IfOk};
+ghost use Rattle.std.specs.Prelude.{◌≡◌, ℕ, List, OnOk, ◌∷◌, IfOk, length};
 ghost use Rattle.strc_syntax.specs.View.{member_view, block_view};
 ghost use Rattle.strc_semantics.specs.declared.types.ValueType.TheVariants.{Int};
 ghost use Rattle.strc_check.specs.Signatures.{with_parameters};
 ghost use Rattle.strc_check.specs.Resolution as judged;
+ghost use Rattle.strc_check.specs.RefusedPlaces.{Stands, helper_place, block_place};
 ghost use Rattle.strc_check.specs.Verdicts.{IsVerdict, NameList};
 
 use crate::error::LowerError;
@@ -14,6 +15,7 @@ use crate::site::Mismatch;
 use crate::{context, statement_rules};
 use std::alloc::Global;
 use strc_base::name::Name;
+use strc_base::place::Span;
 use strc_base::scope::Scope;
 use strc_base::scope_map::ScopeMap;
 use strc_semantics::constants::Constants;
@@ -28,6 +30,7 @@ pub(crate) fn resolve_helper(
     helpers: &ScopeMap<Signature>,
     fields: &mut TypedScope,
     known: &mut Scope,
+    here: &mut Option<Span>,
     kind: HelperType,
     name: &Name,
     parameters: &[Name],
@@ -39,14 +42,20 @@ pub(crate) fn resolve_helper(
         result }
     ensures fields { OnOk result (fields.new ≡ fields.old) }
     ensures known { OnOk result (known.new ≡ name.now ∷ known.old) }
+    ensures here { Stands result (helper_place fields.old known.old here.old name.now
+        parameters.now (block_place (judged.helper_context constants.now helpers.now kind)
+        (with_parameters fields.old parameters.now)
+        (length (with_parameters fields.old parameters.now)) here.old block.now))
+        here.old here.new }
 {
     if known.has(name) {
-        return Err(LowerError::mismatch(Mismatch::DeclaredTwice));
+        let twice = LowerError::mismatch(Mismatch::DeclaredTwice);
+        return Err(twice.or_at(name.place()));
     }
     let context = context::helper_context(constants, helpers, kind);
     let start = fields.len();
     let parameters = resolve_parameters(alloc, fields, start, parameters)?;
-    let block = statement_rules::resolve_block(alloc, &context, fields, block)?;
+    let block = statement_rules::resolve_block(alloc, &context, fields, here, block)?;
     fields.leave(start);
     known.declare(name)?;
     let name = name.copy()?;

@@ -1,7 +1,7 @@
 // Takes a filter's syntax tree and the constants of its surroundings.
 // Gives the tree with the constants substituted, or the first rule that it breaks.
-// The theorem to rely on: `resolution::resolve_filter` answers what specs/Resolution says, and the
-// tree is closed.
+// The theorem to rely on: `resolution::resolve_filter` answers what specs/Resolution says, at the
+// place that specs/RefusedPlaces says where it refuses, and the tree is closed.
 // Stands on strc_semantics, whose constant values it computes, on strc_syntax and strc_base.
 #![tactic(auto)]
 

@@ -1,15 +1,17 @@
 // The rules on rates.
 
-ghost use Rattle.std.specs.Prelude.{◌≡◌, ℤ, map};
+ghost use Rattle.std.specs.Prelude.{◌≡◌, ℤ, map, Some};
 ghost use Rattle.strc_syntax.specs.View.{expr_view, rate_view};
 ghost use Rattle.strc_check.specs.Resolution as judged;
+ghost use Rattle.strc_check.specs.RefusedPlaces.{Stands, rates_place};
 ghost use Rattle.strc_check.specs.Verdicts.{IsVerdict, RateList};
 
-use crate::error::{LowerError, placed};
+use crate::error::LowerError;
 use crate::kept::push_next;
 use crate::site::Mismatch;
 use crate::{context, expression_rules};
 use std::alloc::Global;
+use strc_base::place::Span;
 use strc_semantics::constants::Constants;
 use strc_semantics::evaluation;
 use strc_semantics::typed_scope::TypedScope;
@@ -23,35 +25,43 @@ pub fn resolve_rates(
     fields: &TypedScope,
     input: ItemType,
     output: ItemType,
+    here: &mut Option<Span>,
     rates: &[RateTree],
 ) -> Result<Vec<RateTree>, LowerError>
-    ensures { IsVerdict (λ (resolved : RateList). map rate_view resolved.items)
+    ensures verdict { IsVerdict (λ (resolved : RateList). map rate_view resolved.items)
         (judged.rates_resolved constants.now fields.now input output (map rate_view rates.now))
         result }
+    ensures here { Stands result (rates_place constants.now fields.now input output here.old
+        rates.now) here.old here.new }
 {
     let mut resolved = Vec::new(alloc);
     for rate in rates {
-        let next = resolve_rate(alloc, constants, fields, input, output, rate);
+        let next = resolve_rate(alloc, constants, fields, input, output, here, rate);
         push_next(&mut resolved, next)?;
     }
     Ok(resolved)
 }
 
-/// A rate, whose place a refusal of it gets.
+/// A rate, where a refusal of it is.
 fn resolve_rate(
     alloc: Global,
     constants: &Constants,
     fields: &TypedScope,
     input: ItemType,
     output: ItemType,
+    here: &mut Option<Span>,
     written: &RateTree,
 ) -> Result<RateTree, LowerError>
-    ensures { IsVerdict rate_view
+    ensures verdict { IsVerdict rate_view
         (judged.rate_resolved constants.now fields.now input output (rate_view written.now))
         result }
+    ensures here { Stands result (Some written.now.place) here.old here.new }
 {
-    let resolved = resolve_side(alloc, constants, fields, input, output, written);
-    placed(Some(written.place), resolved)
+    let around = *here;
+    *here = Some(written.place);
+    let resolved = resolve_side(alloc, constants, fields, input, output, written)?;
+    *here = around;
+    Ok(resolved)
 }
 
 /// A rate, on a side where it may be declared.

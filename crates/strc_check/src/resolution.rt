@@ -1,7 +1,7 @@
 // The rules on names and types of filters. A tree that keeps them is copied with its constants
 // substituted.
 
-ghost use Rattle.std.specs.Prelude.{◌≡◌, ℕ, List, IfOk, OnOk, Vec, [], ◌∷◌, map};
+ghost use Rattle.std.specs.Prelude.{◌≡◌, ℕ, List, IfOk, OnOk, Vec, [], ◌∷◌, length, map};
 ghost use Rattle.std.specs.declared.alloc.Global.{Global as Memory};
 ghost use Rattle.strc_syntax.specs.declared.tree.Member.{Member as MemberTree};
 ghost use Rattle.strc_syntax.specs.Tree as tree;
@@ -10,10 +10,12 @@ ghost use Rattle.strc_syntax.specs.View.{type_view};
 ghost use Rattle.strc_semantics.specs.Filters.{filter_of, filter_parts, members_of};
 ghost use Rattle.strc_semantics.specs.Typing as typing;
 ghost use Rattle.strc_check.specs.Resolution as judged;
+ghost use Rattle.strc_check.specs.RefusedPlaces.{Stands, filter_place, members_place, member_place};
+ghost use Rattle.strc_check.specs.RefusedPlaces.{work_place, block_place};
 ghost use Rattle.strc_check.specs.Verdicts.{IsVerdict, context_of, work_view, VariableList};
 
 use crate::context::{self, Context};
-use crate::error::{LowerError, placed};
+use crate::error::LowerError;
 use crate::kept::push_next;
 use crate::signatures::{self, Signature};
 use crate::site::Mismatch;
@@ -21,6 +23,7 @@ use crate::{expression_rules, helpers, parts, rates, statement_rules, type_rules
 use std::alloc::Global;
 use strc_base::memory::NoMemory;
 use strc_base::name::Name;
+use strc_base::place::Span;
 use strc_base::scope::Scope;
 use strc_base::scope_map::ScopeMap;
 use strc_semantics::constants::Constants;
@@ -35,17 +38,21 @@ pub struct ResolvedWork {
     pub block: Vec<Stmt>,
 }
 
-/// The filter of these types and members, with its constants substituted.
+/// The filter of these types and members, with its constants substituted. Where it is refused,
+/// `here` is the innermost statement, rate or declaration of fields around what breaks the rule.
 pub fn resolve_filter(
     alloc: Global,
     input: ItemType,
     output: ItemType,
     members: &[Member],
     constants: &Constants,
+    here: &mut Option<Span>,
 ) -> Result<FilterTree, LowerError>
-    ensures { IsVerdict filter_of
+    ensures verdict { IsVerdict filter_of
         (judged.filter_resolved constants.now (filter_parts input output members.now))
         result }
+    ensures here { Stands result (filter_place constants.now input output here.old members.now)
+        here.old here.new }
 {
     if !parts::has_parts(members) {
         return Err(LowerError::mismatch(parts::broken_rule(members)));
@@ -59,6 +66,7 @@ pub fn resolve_filter(
         constants,
         &helpers,
         &mut fields,
+        here,
         members,
     )?;
     Ok(FilterTree {
@@ -76,12 +84,15 @@ fn resolve_members(
     constants: &Constants,
     helpers: &ScopeMap<Signature>,
     fields: &mut TypedScope,
+    here: &mut Option<Span>,
     members: &[Member],
 ) -> Result<Vec<Member>, LowerError>
-    ensures { IsVerdict (λ (resolved : Vec MemberTree Memory). members_of resolved.items)
+    ensures verdict { IsVerdict (λ (resolved : Vec MemberTree Memory). members_of resolved.items)
         (judged.members_resolved constants.now helpers.now input output fields.old [] []
         (members_of members.now))
         result }
+    ensures here { Stands result (members_place constants.now helpers.now input output fields.old
+        [] [] here.old members.now) here.old here.new }
 {
     let mut before = Scope::new(alloc);
     let mut known = Scope::new(alloc);
@@ -96,6 +107,7 @@ fn resolve_members(
             fields,
             &mut before,
             &mut known,
+            here,
             member,
         );
         push_next(&mut resolved, next)?;
@@ -145,6 +157,7 @@ fn resolve_member(
     fields: &mut TypedScope,
     before: &mut Scope,
     known: &mut Scope,
+    here: &mut Option<Span>,
     member: &Member,
 ) -> Result<Member, LowerError>
     ensures verdict { IsVerdict member_view
@@ -156,34 +169,38 @@ fn resolve_member(
         (member_view member.now)) }
     ensures known { OnOk result (known.new ≡ judged.known_after known.old
         (member_view member.now)) }
+    ensures here { Stands result (member_place constants.now helpers.now input output fields.old
+        known.old here.old member.now) here.old here.new }
 {
     match member {
-        Member::Fields(declared) => placed(
-            Some(declared.place),
-            resolve_declared_fields(alloc, constants, helpers, fields, before, declared),
-        ),
+        Member::Fields(declared) => {
+            let around = *here;
+            *here = Some(declared.place);
+            let member = resolve_declared_fields(
+                alloc, constants, helpers, fields, before, declared,
+            )?;
+            *here = around;
+            Ok(member)
+        }
         Member::Init(block) => {
             let context = context::start_context(constants, helpers);
-            let block = statement_rules::resolve_block(alloc, &context, fields, block)?;
+            let block = statement_rules::resolve_block(alloc, &context, fields, here, block)?;
             Ok(Member::Init(block))
         }
         Member::Prework(rates, block) => {
             let work = resolve_work(
-                alloc, input, output, constants, helpers, fields, rates, block,
+                alloc, input, output, constants, helpers, fields, here, rates, block,
             )?;
             Ok(Member::Prework(work.rates, work.block))
         }
         Member::Work(rates, block) => {
             let work = resolve_work(
-                alloc, input, output, constants, helpers, fields, rates, block,
+                alloc, input, output, constants, helpers, fields, here, rates, block,
             )?;
             Ok(Member::Work(work.rates, work.block))
         }
-        Member::Helper(kind, name, parameters, block) => placed(
-            name.place(),
-            helpers::resolve_helper(
-                alloc, constants, helpers, fields, known, *kind, name, parameters, block,
-            ),
+        Member::Helper(kind, name, parameters, block) => helpers::resolve_helper(
+            alloc, constants, helpers, fields, known, here, *kind, name, parameters, block,
         ),
     }
 }
@@ -293,6 +310,7 @@ fn resolve_work(
     constants: &Constants,
     helpers: &ScopeMap<Signature>,
     fields: &mut TypedScope,
+    here: &mut Option<Span>,
     rates: &[RateTree],
     block: &[Stmt],
 ) -> Result<ResolvedWork, LowerError>
@@ -301,9 +319,12 @@ fn resolve_work(
         (record { rates = map rate_view rates.now; block = block_view block.now }))
         result }
     ensures fields { OnOk result (fields.new ≡ fields.old) }
+    ensures here { Stands result (work_place constants.now fields.old input output here.old
+        rates.now (block_place (judged.body_context constants.now helpers.now input output)
+        fields.old (length fields.old) here.old block.now)) here.old here.new }
 {
-    let rates = rates::resolve_rates(alloc, constants, fields, input, output, rates)?;
+    let rates = rates::resolve_rates(alloc, constants, fields, input, output, here, rates)?;
     let context = context::body_context(constants, helpers, input, output);
-    let block = statement_rules::resolve_block(alloc, &context, fields, block)?;
+    let block = statement_rules::resolve_block(alloc, &context, fields, here, block)?;
     Ok(ResolvedWork { rates, block })
 }

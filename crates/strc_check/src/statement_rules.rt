@@ -10,15 +10,18 @@ ghost use Rattle.strc_semantics.specs.declared.types.ValueType.{ValueType as Kin
 ghost use Rattle.strc_semantics.specs.declared.types.ValueType.TheVariants.{Boolean};
 ghost use Rattle.strc_semantics.specs.Typing as typing;
 ghost use Rattle.strc_check.specs.Resolution as judged;
+ghost use Rattle.strc_check.specs.RefusedPlaces.{Stands, place_in, stmt_place, block_place};
+ghost use Rattle.strc_check.specs.RefusedPlaces.{for_place};
 ghost use Rattle.strc_check.specs.Verdicts.{IsVerdict, context_of, Statements, VariableList};
 
 use crate::context::{self, Context};
-use crate::error::{LowerError, placed};
+use crate::error::LowerError;
 use crate::kept::{accept_node, push_next};
 use crate::site::Mismatch;
 use crate::{expression_rules, signatures, type_rules, writes};
 use std::alloc::Global;
 use strc_base::name::Name;
+use strc_base::place::Span;
 use strc_semantics::typed_scope::TypedScope;
 use strc_semantics::types::{self, ValueType};
 use strc_syntax::node;
@@ -30,17 +33,20 @@ pub(crate) fn resolve_block(
     alloc: Global,
     context: &Context,
     names: &mut TypedScope,
+    here: &mut Option<Span>,
     block: &[Stmt],
 ) -> Result<Vec<Stmt>, LowerError>
     ensures verdict { IsVerdict (λ (block : Statements). block_view block.items)
         (judged.body_resolved (context_of context.now) names.old (block_view block.now))
         result }
     ensures names { OnOk result (names.new ≡ names.old) }
+    ensures here { Stands result (block_place (context_of context.now) names.old
+        (length names.old) here.old block.now) here.old here.new }
 {
     let start = names.len();
     let mut resolved = Vec::new(alloc);
     for inner in block {
-        let next = resolve_stmt(alloc, context, names, start, inner);
+        let next = resolve_stmt(alloc, context, names, here, start, inner);
         push_next(&mut resolved, next)?;
     }
     names.leave(start);
@@ -53,6 +59,7 @@ pub(crate) fn resolve_stmt(
     alloc: Global,
     context: &Context,
     names: &mut TypedScope,
+    here: &mut Option<Span>,
     start: usize,
     statement: &Stmt,
 ) -> Result<Stmt, LowerError>
@@ -61,12 +68,14 @@ pub(crate) fn resolve_stmt(
         result }
     ensures names { OnOk result (names.new ≡ typing.names_after names.old
         (stmt_view statement.now)) }
+    ensures here { Stands result (stmt_place (context_of context.now) names.old start here.old
+        statement.now) here.old here.new }
 {
     match statement {
         Stmt::Empty => Ok(Stmt::Empty),
         Stmt::Compose(_) => Err(LowerError::mismatch(Mismatch::StreamStatement)),
         Stmt::Block(body) => {
-            let body = resolve_block(alloc, context, names, body)?;
+            let body = resolve_block(alloc, context, names, here, body)?;
             Ok(Stmt::Block(body))
         }
         Stmt::Declare(declared) => resolve_declared(alloc, context, names, start, declared),
@@ -80,21 +89,23 @@ pub(crate) fn resolve_stmt(
         Stmt::AssignElement(name, index, operator, value) => {
             resolve_element(alloc, context, names, name, index, *operator, value)
         }
-        Stmt::If(condition, chosen) => resolve_if(alloc, context, names, condition, chosen),
+        Stmt::If(condition, chosen) => resolve_if(alloc, context, names, here, condition, chosen),
         Stmt::IfElse(condition, chosen, other) => {
-            resolve_if_else(alloc, context, names, condition, chosen, other)
+            resolve_if_else(alloc, context, names, here, condition, chosen, other)
         }
-        Stmt::While(condition, body) => resolve_while(alloc, context, names, condition, body),
+        Stmt::While(condition, body) => resolve_while(alloc, context, names, here, condition, body),
         Stmt::For(first, condition, step, body) => {
-            resolve_for(alloc, context, names, first, condition, step, body)
+            resolve_for(alloc, context, names, here, first, condition, step, body)
         }
         Stmt::Push(value) => { Ok(Stmt::Push(check_pushed(alloc, context, names, value)?)) }
         Stmt::Print(value) => { Ok(Stmt::Print(check_printed(alloc, context, names, value)?)) }
         Stmt::Println(value) => { Ok(Stmt::Println(check_printed(alloc, context, names, value)?)) }
         Stmt::Return(value) => { Ok(Stmt::Return(resolve_returned(alloc, context, names, value)?)) }
         Stmt::Placed(place, inner) => {
-            let resolved = resolve_stmt(alloc, context, names, start, inner);
-            let statement = placed(Some(*place), resolved)?;
+            let around = *here;
+            *here = Some(*place);
+            let statement = resolve_stmt(alloc, context, names, here, start, inner)?;
+            *here = around;
             accept_node(node::placed_of(alloc, *place, statement))
         }
     }
@@ -107,6 +118,7 @@ fn resolve_inside(
     alloc: Global,
     context: &Context,
     names: &mut TypedScope,
+    here: &mut Option<Span>,
     statement: &Stmt,
 ) -> Result<Stmt, LowerError>
     ensures verdict { IsVerdict stmt_view
@@ -114,9 +126,11 @@ fn resolve_inside(
         (stmt_view statement.now))
         result }
     ensures names { OnOk result (names.new ≡ names.old) }
+    ensures here { Stands result (stmt_place (context_of context.now) names.old (length names.old)
+        here.old statement.now) here.old here.new }
 {
     let start = names.len();
-    let resolved = resolve_stmt(alloc, context, names, start, statement);
+    let resolved = resolve_stmt(alloc, context, names, here, start, statement);
     names.leave(start);
     resolved
 }
@@ -127,6 +141,7 @@ fn resolve_if(
     alloc: Global,
     context: &Context,
     names: &mut TypedScope,
+    here: &mut Option<Span>,
     condition: &Expr,
     chosen: &Stmt,
 ) -> Result<Stmt, LowerError>
@@ -135,9 +150,14 @@ fn resolve_if(
         (tree.If (expr_view condition.now) (stmt_view chosen.now)))
         result }
     ensures names { OnOk result (names.new ≡ names.old) }
+    ensures here { Stands result
+        (place_in (judged.expr_as (context_of context.now) names.old Boolean
+        (expr_view condition.now)) here.old
+        (stmt_place (context_of context.now) names.old (length names.old) here.old chosen.now))
+        here.old here.new }
 {
     let condition = resolve_condition(alloc, context, names, condition)?;
-    let chosen = resolve_inside(alloc, context, names, chosen)?;
+    let chosen = resolve_inside(alloc, context, names, here, chosen)?;
     accept_node(node::if_of(alloc, condition, chosen))
 }
 
@@ -147,6 +167,7 @@ fn resolve_if_else(
     alloc: Global,
     context: &Context,
     names: &mut TypedScope,
+    here: &mut Option<Span>,
     condition: &Expr,
     chosen: &Stmt,
     other: &Stmt,
@@ -156,10 +177,18 @@ fn resolve_if_else(
         (tree.IfElse (expr_view condition.now) (stmt_view chosen.now) (stmt_view other.now)))
         result }
     ensures names { OnOk result (names.new ≡ names.old) }
+    ensures here { Stands result
+        (place_in (judged.expr_as (context_of context.now) names.old Boolean
+        (expr_view condition.now)) here.old
+        (place_in (judged.stmt_resolved (context_of context.now) names.old (length names.old)
+        (stmt_view chosen.now))
+        (stmt_place (context_of context.now) names.old (length names.old) here.old chosen.now)
+        (stmt_place (context_of context.now) names.old (length names.old) here.old other.now)))
+        here.old here.new }
 {
     let condition = resolve_condition(alloc, context, names, condition)?;
-    let chosen = resolve_inside(alloc, context, names, chosen)?;
-    let other = resolve_inside(alloc, context, names, other)?;
+    let chosen = resolve_inside(alloc, context, names, here, chosen)?;
+    let other = resolve_inside(alloc, context, names, here, other)?;
     accept_node(node::if_else_of(alloc, condition, chosen, other))
 }
 
@@ -169,6 +198,7 @@ fn resolve_while(
     alloc: Global,
     context: &Context,
     names: &mut TypedScope,
+    here: &mut Option<Span>,
     condition: &Expr,
     body: &Stmt,
 ) -> Result<Stmt, LowerError>
@@ -177,9 +207,14 @@ fn resolve_while(
         (tree.While (expr_view condition.now) (stmt_view body.now)))
         result }
     ensures names { OnOk result (names.new ≡ names.old) }
+    ensures here { Stands result
+        (place_in (judged.expr_as (context_of context.now) names.old Boolean
+        (expr_view condition.now)) here.old
+        (stmt_place (context_of context.now) names.old (length names.old) here.old body.now))
+        here.old here.new }
 {
     let condition = resolve_condition(alloc, context, names, condition)?;
-    let body = resolve_inside(alloc, context, names, body)?;
+    let body = resolve_inside(alloc, context, names, here, body)?;
     accept_node(node::while_of(alloc, condition, body))
 }
 
@@ -190,6 +225,7 @@ fn resolve_for(
     alloc: Global,
     context: &Context,
     names: &mut TypedScope,
+    here: &mut Option<Span>,
     first: &Stmt,
     condition: &Option<Expr>,
     step: &Stmt,
@@ -201,13 +237,15 @@ fn resolve_for(
         (stmt_view body.now)))
         result }
     ensures names { OnOk result (names.new ≡ names.old) }
+    ensures here { Stands result (for_place (context_of context.now) names.old here.old first.now
+        (option_map expr_view condition.now) step.now body.now) here.old here.new }
 {
     let outside = names.len();
-    let first = resolve_stmt(alloc, context, names, outside, first)?;
+    let first = resolve_stmt(alloc, context, names, here, outside, first)?;
     let kind = ValueType::Boolean;
     let condition = expression_rules::resolve_initial(alloc, context, names, kind, condition)?;
-    let step = resolve_inside(alloc, context, names, step)?;
-    let body = resolve_inside(alloc, context, names, body)?;
+    let step = resolve_inside(alloc, context, names, here, step)?;
+    let body = resolve_inside(alloc, context, names, here, body)?;
     names.leave(outside);
     accept_node(node::for_of(alloc, first, condition, step, body))
 }

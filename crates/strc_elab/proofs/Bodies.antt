@@ -17,7 +17,7 @@ use Rattle.strc_elab.specs.Elaboration.{Setting, Progress, inside, stmt_run, stm
 use Rattle.strc_statements.specs.Answers.{IsRefusal}
 use Rattle.strc_elab.specs.Loops.{for_looped, names_after_block}
 use Rattle.strc_statements.specs.declared.error.ElabError.{ElabError}
-use Rattle.strc_statements.proofs.Refusals.{first_refused}
+use Rattle.strc_statements.proofs.Refusals.{refused_same, first_refused}
 
 -- ---- names
 
@@ -98,6 +98,21 @@ stmts_go_on setting names names' outer items i x p after lt at ran grown =
     ap (λ n. stmts_run setting n outer (block_view (drop (i + 1) items)) after) grown
     ∙ sym (ap (λ b. stmts_run setting names outer b p) (block_view-drop items i x lt at)
     ∙ ap (λ r. result_and_then r rest) ran)
+
+-- the first of the statements that are left is refused
+pub stmts_refused : (setting : Setting) (names : TypedNames) (outer : ℕ) (items : List Stmt)
+    (i : ℕ) (x : Stmt) (p : Progress) (e : ElabError) → i < length items → x ≡ get_or items i x
+    → IsRefusal (stmt_run setting names outer (stmt_view x) p) e
+    → IsRefusal (stmts_run setting names outer (block_view (drop i items)) p) e
+stmts_refused setting names outer items i x p e lt at refuses =
+    let first = stmt_run setting names outer (stmt_view x) p in
+    let rest : Progress → Result Progress ElabError =
+    stmts_run setting (names_after names (stmt_view x)) outer
+    (block_view (drop (i + 1) items)) in
+    refused_same (result_and_then first rest)
+    (stmts_run setting names outer (block_view (drop i items)) p) e
+    (ap (λ b. stmts_run setting names outer b p) (block_view-drop items i x lt at))
+    (first_refused first rest e refuses)
 
 pub names_go_on : (names names' : TypedNames) (items : List Stmt) (i : ℕ) (x : Stmt)
     → i < length items → x ≡ get_or items i x → names' ≡ names_after names (stmt_view x)

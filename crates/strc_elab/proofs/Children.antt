@@ -15,7 +15,7 @@ use Rattle.strc_syntax.proofs.Views.{child_view_filter, child_view_composite, ro
 use Rattle.strc_semantics.specs.Filters.{filter_parts}
 use Rattle.strc_elab.specs.Elaboration.{Setting, Progress, Elaborated, Found, child_run, found_run}
 use Rattle.strc_elab.specs.Elaboration.{unnamed_found, named_found, child_added, arguments_given}
-use Rattle.strc_elab.specs.Elaboration.{where_kept}
+use Rattle.strc_elab.specs.Elaboration.{where_kept, child_found}
 use Rattle.strc_semantics.specs.Typing.{TypedNames}
 use Rattle.strc_statements.specs.Texts.{Constants, FilterText, CompositeText, listed, parameters_of}
 use Rattle.strc_statements.specs.Texts.{is_doubled, text_of}
@@ -31,6 +31,17 @@ listed_chain [] = refl
 listed_chain (first ∷ rest) = ap (λ (l : List tree.Member). first ∷ l) (listed_chain rest)
 
 -- an anonymous filter's text is that of its members
+pub filter_found : (setting : Setting) (names : TypedNames) (types : StreamType)
+    (members : Vec Member Global) (store : firing.Store)
+    → child_found setting names (child_view (Filter types members)) store
+    ≡ Ok (unnamed_found setting names
+    (FilterText None (filter_parts types.input types.output members.items)) store)
+filter_found setting names types members store =
+    ap (λ child. child_found setting names child store) (child_view_filter types members)
+    ∙ ap (λ (l : List tree.Member). Ok (unnamed_found setting names (FilterText None
+    (record { input = types.input; output = types.output; members = l })) store))
+    (listed_chain (map member_view members.items))
+
 pub filter_child : (setting : Setting) (names : TypedNames) (role : Role) (types : StreamType)
     (members : Vec Member Global) (progress : Progress)
     → child_run setting names role (child_view (Filter types members)) progress
@@ -38,14 +49,19 @@ pub filter_child : (setting : Setting) (names : TypedNames) (role : Role) (types
     (FilterText None (filter_parts types.input types.output members.items)) progress.store))
     progress
 filter_child setting names role types members progress =
-    ap (λ child. child_run setting names role child progress) (child_view_filter types members)
-    ∙ ap (λ (l : List tree.Member). found_run setting role
-    (Ok (unnamed_found setting names (FilterText None
-    (record { input = types.input; output = types.output; members = l })) progress.store))
-    progress)
-    (listed_chain (map member_view members.items))
+    ap (λ found. found_run setting role found progress)
+    (filter_found setting names types members progress.store)
 
 -- an anonymous composite stream's text is that of its block
+pub composite_found : (setting : Setting) (names : TypedNames) (written : Option StreamType)
+    (kind : CompositeKind) (block : Vec Stmt Global) (store : firing.Store)
+    → child_found setting names (child_view (Composite written kind block)) store
+    ≡ Ok (unnamed_found setting names (CompositeText written kind (block_view block.items)) store)
+composite_found setting names written kind block store =
+    ap (λ child. child_found setting names child store) (child_view_composite written kind block)
+    ∙ ap (λ body. Ok (unnamed_found setting names (CompositeText written kind body) store))
+    (sym (row_of_views block.items))
+
 pub composite_child : (setting : Setting) (names : TypedNames) (role : Role)
     (written : Option StreamType) (kind : CompositeKind) (block : Vec Stmt Global)
     (progress : Progress)
@@ -53,10 +69,8 @@ pub composite_child : (setting : Setting) (names : TypedNames) (role : Role)
     ≡ found_run setting role (Ok (unnamed_found setting names
     (CompositeText written kind (block_view block.items)) progress.store)) progress
 composite_child setting names role written kind block progress =
-    ap (λ child. child_run setting names role child progress)
-    (child_view_composite written kind block)
-    ∙ ap (λ body. found_run setting role (Ok (unnamed_found setting names
-    (CompositeText written kind body) progress.store)) progress) (sym (row_of_views block.items))
+    ap (λ found. found_run setting role found progress)
+    (composite_found setting names written kind block progress.store)
 
 -- a child is added to a body whose store is given anew
 added_anew : (setting : Setting) (role : Role) (progress : Progress) (before after : firing.Store)

@@ -1,8 +1,12 @@
 -- Streams in one another, level by level.
-use Rattle.std.proofs.Common.{◌≡◌, ℕ, zero, suc, ◌-◌, List, [], refl, ap, ◌∙◌, arith}
+use Rattle.std.proofs.Common.{◌≡◌, ℕ, zero, suc, ◌-◌, List, [], map, refl, ap, ◌∙◌, arith}
+use Rattle.strc_syntax.specs.View.{declaration_view}
+use Rattle.strc_syntax.specs.declared.tree.Decl.{Decl}
 use Rattle.strc_syntax.specs.Tree.{Declaration}
 use Rattle.strc_elab.specs.Elaboration.{Totals, text_elaborated, stream_elaborated, main_elaborated}
 use Rattle.strc_elab.specs.Elaboration.{level_limit}
+use Rattle.strc_elab.specs.Places.{stream_place, text_place, main_place}
+use Rattle.strc_elab.specs.Sources.{Source, numbered_source}
 use Rattle.strc_statements.specs.Texts.{Constants, Place, Text, text_of}
 
 -- a stream that may have a level is what its text makes of the streams of the levels below
@@ -24,6 +28,34 @@ stream_elaborated-level program (suc levels) place text totals some =
       elaborate =
           stream_elaborated program n;
     }) text totals) below
+
+-- and it is refused where its text is
+pub stream_place-level : (declarations : List Decl) (levels : ℕ) (place : Place) (source : Source)
+    (totals : Totals) → (levels ≡ 0 → ⊥)
+    → stream_place declarations levels place source totals
+    ≡ text_place (record {
+      setting =
+          record {
+            program = map declaration_view declarations;
+            place = place;
+            elaborate = stream_elaborated (map declaration_view declarations) (levels - 1);
+          };
+      declarations = declarations;
+      below = stream_place declarations (levels - 1);
+    }) source totals
+stream_place-level declarations zero place source totals some = absurd (some refl)
+stream_place-level declarations (suc levels) place source totals some =
+    let below : levels ≡ suc levels - 1 = omega arith in
+    ap (λ n. text_place (record {
+      setting =
+          record {
+            program = map declaration_view declarations;
+            place = place;
+            elaborate = stream_elaborated (map declaration_view declarations) n;
+          };
+      declarations = declarations;
+      below = stream_place declarations n;
+    }) source totals) below
 
 -- a stream without a level isn't made
 pub stream_elaborated-none : (program : List Declaration) (levels : ℕ) (place : Place) (text : Text)
@@ -50,3 +82,17 @@ main_elaborated-task program found constants text none is =
     none
     ∙ ap (λ t. stream_elaborated program level_limit
     (record { declaration = found.0; constants = [] }) t (record { turns = 0; filters = 0 })) is
+
+-- the main stream is refused where its text is
+pub main_place-task : (declarations : List Decl) (number : ℕ) (constants : Constants)
+    (source : Source) → constants ≡ [] → source ≡ numbered_source declarations number
+    → stream_place declarations 64 (record { declaration = number; constants = constants }) source
+    (record { turns = 0; filters = 0 }) ≡ main_place declarations number
+main_place-task declarations number constants source none is =
+    ap (λ n. stream_place declarations n (record { declaration = number; constants = constants })
+    source (record { turns = 0; filters = 0 })) level_limit_is
+    ∙ ap (λ c. stream_place declarations level_limit
+    (record { declaration = number; constants = c }) source (record { turns = 0; filters = 0 }))
+    none
+    ∙ ap (λ s. stream_place declarations level_limit
+    (record { declaration = number; constants = [] }) s (record { turns = 0; filters = 0 })) is

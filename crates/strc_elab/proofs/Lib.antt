@@ -1,11 +1,16 @@
 pub mod Bodies
+pub mod BodyPlaces
+pub mod ChildPlaces
 pub mod Children
 pub mod Composites
 pub mod Doubles
 pub mod Examples
 pub mod Keeping
 pub mod Levels
+pub mod Places
+pub mod LoopPlaces
 pub mod LoopRuns
+pub mod Mains
 pub mod SoundBodies
 pub mod SoundAssembly
 pub mod SoundRows

@@ -53,7 +53,7 @@ whole_turns test body round p tested value whole below leads is holds =
     (λ turning. result_and_then (body turning) (looped (turn_limit - round) test body)))
     (Ok tested)) holds
 
-turned_done : (tested : Progress) (store : firing.Store)
+pub turned_done : (tested : Progress) (store : firing.Store)
     → computed (firing.turned tested.store) ≡ Ok store
     → turned tested ≡ Ok (record tested { store = store })
 turned_done tested store turn =

@@ -1,6 +1,6 @@
 -- How code that elaborates answers.
 use Rattle.std.specs.Prelude.{◌≡◌, ℤ, List, map, Option, Result, Ok, Err, Vec, Box}
-use Rattle.std.specs.Option.{option_map}
+use Rattle.std.specs.Option.{option_map, option_or}
 use Rattle.std.specs.declared.alloc.Global.{Global}
 use Rattle.strc_semantics.specs.Firing as firing
 use Rattle.strc_elab.specs.Elaboration as spec
@@ -11,7 +11,11 @@ use Rattle.strc_stream.specs.Instances as instances
 use Rattle.strc_stream.specs.View.{stream_view}
 use Rattle.strc_stream.specs.declared.stream.Stream.{Stream}
 use Rattle.strc_statements.specs.declared.error.ElabError.{ElabError}
+use Rattle.strc_statements.specs.declared.error.ElabErrorKind.TheVariants.{NoMemory}
+use Rattle.strc_elab.specs.declared.placed.PlacedError.{PlacedError}
 use Rattle.strc_elab.specs.declared.progress.Progress.{Progress}
+use Rattle.strc_elab.specs.declared.task.Elaborated.{Elaborated}
+use Rattle.strc_base.specs.declared.place.Span.{Span}
 use Rattle.strc_statements.specs.Splits.{split_view}
 use Rattle.strc_statements.specs.declared.weights.Split.{Split}
 use Rattle.strc_statements.specs.Answers.{IsRefusal}
@@ -68,3 +72,40 @@ abbrev pub Binds : Result (Constants × firing.Store) ElabError → Result Const
     → firing.Store → Type 0
 Binds expected (Ok bound) after = expected ≡ Ok (bound, after)
 Binds expected (Err refusal) after = IsRefusal expected refusal
+
+-- ---- places
+
+-- the place of a refusal, which is known unless it is out of memory
+abbrev pub IsPlaceOf : ElabError → (expected found : Option Span) → Type 0
+IsPlaceOf NoMemory expected found = Unit {0}
+IsPlaceOf refusal expected found = found ≡ expected
+
+-- after a refusal the innermost statement is the one that was refused, and else the one before
+abbrev pub Stands : {X : Type 0} → Result X ElabError → (expected before after : Option Span)
+    → Type 0
+Stands (Ok done) expected before after = after ≡ before
+Stands (Err refusal) expected before after = IsPlaceOf refusal expected after
+
+-- an answer, whose refusal has a place, is the judgement's
+abbrev pub IsPlacedVerdict : {X A : Type 0} → (X → A) → Result A ElabError → Result X PlacedError
+    → Type 0
+IsPlacedVerdict view expected (Ok x) = expected ≡ Ok (view x)
+IsPlacedVerdict view expected (Err refusal) = IsRefusal expected refusal.error
+
+-- an answer's refusal is at this place
+abbrev pub IsPlaced : {X : Type 0} → (expected : Option Span) → Result X PlacedError → Type 0
+IsPlaced expected (Ok x) = Unit {0}
+IsPlaced expected (Err refusal) = IsPlaceOf refusal.error expected refusal.place
+
+-- a refusal of a text one level below is within that text, as far as that is known
+pub record IsWithin (answer : Result Elaborated PlacedError) (refusal : ElabError)
+    (before after : Option Span) : Type 0 where
+  pub place : Option Span
+  pub answered : answer ≡ Err (record { error = refusal; place = place })
+  pub moved : after ≡ option_or place before
+
+-- what such a text gives
+abbrev pub IsFrom : Result Elaborated PlacedError → Result Elaborated ElabError
+    → (before after : Option Span) → Type 0
+IsFrom answer (Ok elaborated) before after = (answer ≡ Ok elaborated) × (after ≡ before)
+IsFrom answer (Err refusal) before after = IsWithin answer refusal before after

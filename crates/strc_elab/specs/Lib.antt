@@ -4,5 +4,7 @@ pub mod Tasks
 pub mod Totals
 pub mod Loops
 pub mod Answering
+pub mod Sources
+pub mod Places
 pub mod Assembly
 pub mod Sound

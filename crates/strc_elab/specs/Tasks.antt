@@ -8,10 +8,12 @@ use Rattle.strc_syntax.specs.View.{declaration_view, block_view}
 use Rattle.strc_semantics.specs.Filters.{filter_parts}
 use Rattle.strc_statements.specs.Texts as texts
 use Rattle.strc_elab.specs.Elaboration as spec
-use Rattle.strc_statements.specs.Answers.{IsVerdict}
+use Rattle.strc_elab.specs.Answering.{IsPlacedVerdict, IsPlaced}
+use Rattle.strc_elab.specs.Sources.{text_source}
+use Rattle.strc_elab.specs.Places.{Tracing, stream_place}
 use Rattle.strc_statements.specs.Names.{place_from}
 use Rattle.strc_stream.specs.View.{stream_view}
-use Rattle.strc_statements.specs.declared.error.ElabError.{ElabError}
+use Rattle.strc_elab.specs.declared.placed.PlacedError.{PlacedError}
 use Rattle.strc_elab.specs.declared.task.Text.{Text}
 use Rattle.strc_elab.specs.declared.task.Text.TheVariants as text
 use Rattle.strc_elab.specs.declared.task.Task.{Task}
@@ -54,17 +56,18 @@ elaborated_view elaborated = record {
   totals = record { turns = elaborated.totals.turns; filters = elaborated.totals.filters };
 }
 
--- an answer is what the definitions make of the task
-abbrev pub IsTaskVerdict : Task → Result Elaborated ElabError → Type 0
-IsTaskVerdict task result = IsVerdict elaborated_view
-    (spec.stream_elaborated (program_of task) task.levels (place_of task) (text_view task.text)
-    (totals_of task)) result
+-- an answer is what the definitions make of the task, and a refusal where they refuse it
+pub record IsTaskVerdict (task : Task) (result : Result Elaborated PlacedError) : Type 0 where
+  pub verdict : IsPlacedVerdict elaborated_view (spec.stream_elaborated (program_of task)
+      task.levels (place_of task) (text_view task.text) (totals_of task)) result
+  pub place : IsPlaced (stream_place task.declarations.now task.levels (place_of task)
+      (text_source task.text) (totals_of task)) result
 
 -- a function value that elaborates texts with so many levels
 pub record Elaborates (levels : ℕ) (pre : Task → Type 0)
-    (post : Task → Result Elaborated ElabError → Type 0) : Type 0 where
+    (post : Task → Result Elaborated PlacedError → Type 0) : Type 0 where
   pub callable : (task : Task) → task.levels ≡ levels → KnowsNames task → pre task
-  pub elaborates : (task : Task) (result : Result Elaborated ElabError) → task.levels ≡ levels
+  pub elaborates : (task : Task) (result : Result Elaborated PlacedError) → task.levels ≡ levels
       → post task result → IsTaskVerdict task result
 
 -- what the body of a task's text is in
@@ -75,8 +78,16 @@ setting_of task = record {
   elaborate = spec.stream_elaborated (program_of task) (task.levels - 1);
 }
 
+-- with its declarations and their places
+abbrev pub tracing_of : Task → Tracing
+tracing_of task = record {
+  setting = setting_of task;
+  declarations = task.declarations.now;
+  below = stream_place task.declarations.now (task.levels - 1);
+}
+
 -- what a body's rules stand on: the table knows the names, and the function value elaborates the
 -- level below
 unfoldable pub IsReady : Task → (pre : Task → Type 0)
-    (post : Task → Result Elaborated ElabError → Type 0) → Type 0
+    (post : Task → Result Elaborated PlacedError → Type 0) → Type 0
 IsReady task pre post = KnowsNames task × Elaborates (task.levels - 1) pre post

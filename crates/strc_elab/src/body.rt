@@ -2,7 +2,7 @@
 // elaborates the streams one level below, which they take as a value, so that each is proved by
 // itself.
 
-ghost use Rattle.std.specs.Prelude.{◌≡◌, ◌-◌, suc, OnOk, length};
+ghost use Rattle.std.specs.Prelude.{◌≡◌, ◌-◌, suc, OnOk, Some, length};
 ghost use Rattle.std.specs.Option.{option_map};
 ghost use Rattle.strc_syntax.specs.Tree as tree;
 ghost use Rattle.strc_syntax.specs.View.{expr_view, stmt_view, block_view};
@@ -14,10 +14,13 @@ ghost use Rattle.strc_elab.specs.Elaboration as spec;
 ghost use Rattle.strc_elab.specs.Loops.{while_looped, for_looped, names_after_block};
 ghost use Rattle.strc_statements.specs.Saying.{store_of};
 ghost use Rattle.strc_statements.specs.Answers.{Done};
-ghost use Rattle.strc_elab.specs.Answering.{progress_of, Tests, Runs};
+ghost use Rattle.strc_elab.specs.Answering.{progress_of, Tests, Runs, Stands};
 ghost use Rattle.strc_statements.specs.Places.{place_of as spec_place};
-ghost use Rattle.strc_elab.specs.Tasks.{IsReady, setting_of, place_of as task_place};
+ghost use Rattle.strc_elab.specs.Places.{stmt_place, block_place, while_place, for_place};
+ghost use Rattle.strc_elab.specs.Places.{for_turns_place};
+ghost use Rattle.strc_elab.specs.Tasks.{IsReady, setting_of, tracing_of, place_of as task_place};
 
+use crate::placed::PlacedError;
 use crate::progress::Progress;
 use crate::task::{Elaborated, Task};
 use strc_base::place::Span;
@@ -25,7 +28,7 @@ use strc_check::site::Mismatch;
 use strc_semantics::evaluation::is_true;
 use strc_semantics::fault::{Cause, TURN_LIMIT};
 use strc_semantics::types::ValueType;
-use strc_statements::error::{ElabError, placed};
+use strc_statements::error::ElabError;
 use strc_statements::steps::Place;
 use strc_statements::store::Store;
 use strc_syntax::tree::{Expr, Stmt};
@@ -52,7 +55,7 @@ fn turn(store: &mut Store) -> Result<(), ElabError>
     Ok(())
 }
 
-impl<F: Fn(Task) -> Result<Elaborated, ElabError>> Body<'_, F> {
+impl<F: Fn(Task) -> Result<Elaborated, PlacedError>> Body<'_, F> {
     /// Where the statements are.
     pub(crate) fn place(&self) -> Place
         ensures { spec_place result ≡ task_place self.now.task }
@@ -75,6 +78,7 @@ impl<F: Fn(Task) -> Result<Elaborated, ElabError>> Body<'_, F> {
             (option_map (λ e. expr_view e.now) condition.entry) (progress_of progress.old)) result
             (progress_of progress.new) }
         ensures names { progress.new.store.variables.names ≡ progress.old.store.variables.names }
+        ensures here { progress.new.here ≡ progress.old.here }
     {
         match condition {
             None => Ok(1),
@@ -96,6 +100,10 @@ impl<F: Fn(Task) -> Result<Elaborated, ElabError>> Body<'_, F> {
             (progress_of progress.old)) result (progress_of progress.new) }
         ensures names { OnOk result (progress.new.store.variables.names
             ≡ progress.old.store.variables.names) }
+        ensures here { Stands result (stmt_place (tracing_of self.now.task)
+            progress.old.store.variables.names (length progress.old.store.variables.names)
+            statement.now (progress_of progress.old) progress.old.here) progress.old.here
+            progress.new.here }
     {
         let start = progress.store.variables.count();
         self.statement(start, statement, progress)?;
@@ -118,6 +126,9 @@ impl<F: Fn(Task) -> Result<Elaborated, ElabError>> Body<'_, F> {
             (progress_of progress.old)) result (progress_of progress.new) }
         ensures names { OnOk result (progress.new.store.variables.names
             ≡ names_after_block progress.old.store.variables.names (block_view block.now)) }
+        ensures here { Stands result (block_place (tracing_of self.now.task)
+            progress.old.store.variables.names start block.now (progress_of progress.old)
+            progress.old.here) progress.old.here progress.new.here }
     {
         for statement in block {
             self.statement(start, statement, progress)?;
@@ -140,6 +151,9 @@ impl<F: Fn(Task) -> Result<Elaborated, ElabError>> Body<'_, F> {
             (progress_of progress.old)) result (progress_of progress.new) }
         ensures names { OnOk result (progress.new.store.variables.names
             ≡ typing.names_after progress.old.store.variables.names (stmt_view statement.now)) }
+        ensures here { Stands result (stmt_place (tracing_of self.now.task)
+            progress.old.store.variables.names start statement.now (progress_of progress.old)
+            progress.old.here) progress.old.here progress.new.here }
     {
         match statement {
             Stmt::Empty => Ok(()),
@@ -180,8 +194,8 @@ impl<F: Fn(Task) -> Result<Elaborated, ElabError>> Body<'_, F> {
         }
     }
 
-    /// Runs a statement that is written here: a refusal of its own is here too, but not one of a
-    /// statement within it, which has a place of its own.
+    /// Runs a statement that is written here. After a refusal, which is of the statement or of one
+    /// within it, the place stays there.
     #[cycle(body)]
     fn statement_at(
         &self,
@@ -196,12 +210,15 @@ impl<F: Fn(Task) -> Result<Elaborated, ElabError>> Body<'_, F> {
             (progress_of progress.old)) result (progress_of progress.new) }
         ensures names { OnOk result (progress.new.store.variables.names
             ≡ typing.names_after progress.old.store.variables.names (stmt_view statement.now)) }
+        ensures here { Stands result (stmt_place (tracing_of self.now.task)
+            progress.old.store.variables.names start statement.now (progress_of progress.old)
+            (Some place)) progress.old.here progress.new.here }
     {
         let around = progress.here;
         progress.here = Some(place);
-        let outcome = self.statement(start, statement, progress);
+        self.statement(start, statement, progress)?;
         progress.here = around;
-        placed(Some(place), outcome)
+        Ok(())
     }
 
     /// Runs a block in a scope of its own.
@@ -213,6 +230,9 @@ impl<F: Fn(Task) -> Result<Elaborated, ElabError>> Body<'_, F> {
             (progress_of progress.old)) result (progress_of progress.new) }
         ensures names { OnOk result (progress.new.store.variables.names
             ≡ progress.old.store.variables.names) }
+        ensures here { Stands result (block_place (tracing_of self.now.task)
+            progress.old.store.variables.names (length progress.old.store.variables.names) block.now
+            (progress_of progress.old) progress.old.here) progress.old.here progress.new.here }
     {
         let start = progress.store.variables.count();
         self.statements(start, block, progress)?;
@@ -238,6 +258,10 @@ impl<F: Fn(Task) -> Result<Elaborated, ElabError>> Body<'_, F> {
             (progress_of progress.new) }
         ensures names { OnOk result (progress.new.store.variables.names
             ≡ progress.old.store.variables.names) }
+        ensures here { Stands result (for_place (tracing_of self.now.task)
+            progress.old.store.variables.names first.now
+            (option_map (λ e. expr_view e.now) condition.entry) step.now body.now
+            (progress_of progress.old) progress.old.here) progress.old.here progress.new.here }
     {
         let start = progress.store.variables.count();
         self.statement(start, first, progress)?;
@@ -260,6 +284,9 @@ impl<F: Fn(Task) -> Result<Elaborated, ElabError>> Body<'_, F> {
             (suc turn_limit) (progress_of progress.old)) result (progress_of progress.new) }
         ensures names { OnOk result (progress.new.store.variables.names
             ≡ progress.old.store.variables.names) }
+        ensures here { Stands result (while_place (tracing_of self.now.task)
+            progress.old.store.variables.names (expr_view condition.now) body.now progress.old.here
+            (suc turn_limit) (progress_of progress.old)) progress.old.here progress.new.here }
     {
         // The limit of iterations comes first; the range is there to end the loop in any case.
         for _round in 0..TURN_LIMIT + 1 {
@@ -288,6 +315,10 @@ impl<F: Fn(Task) -> Result<Elaborated, ElabError>> Body<'_, F> {
             (progress_of progress.old)) result (progress_of progress.new) }
         ensures names { OnOk result (progress.new.store.variables.names
             ≡ progress.old.store.variables.names) }
+        ensures here { Stands result (for_turns_place (tracing_of self.now.task)
+            progress.old.store.variables.names (option_map (λ e. expr_view e.now) condition.entry)
+            step.now body.now progress.old.here (suc turn_limit) (progress_of progress.old))
+            progress.old.here progress.new.here }
     {
         for _round in 0..TURN_LIMIT + 1 {
             if !is_true(self.eval_condition(condition, progress)?) {

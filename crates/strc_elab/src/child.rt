@@ -7,14 +7,17 @@ ghost use Rattle.strc_syntax.specs.declared.tree.Role.TheVariants as roles;
 ghost use Rattle.strc_elab.specs.Elaboration as spec;
 ghost use Rattle.strc_statements.specs.Texts as texts;
 ghost use Rattle.strc_statements.specs.Saying.{store_of};
-ghost use Rattle.strc_elab.specs.Answering.{progress_of, Binds, Runs};
+ghost use Rattle.strc_elab.specs.Answering.{progress_of, Binds, Runs, Stands, IsFrom};
 ghost use Rattle.strc_elab.specs.Assembly.{elaborated_by};
-ghost use Rattle.strc_elab.specs.Tasks.{IsReady, setting_of, program_of};
+ghost use Rattle.strc_elab.specs.Places.{child_place, found_place};
+ghost use Rattle.strc_elab.specs.Sources.{named_source, declaration_source, text_source};
+ghost use Rattle.strc_elab.specs.Tasks.{IsReady, setting_of, tracing_of, program_of};
 ghost use Rattle.strc_elab.specs.Tasks.{text_view};
 ghost use Rattle.strc_stream.specs.View.{stream_view};
 
 use crate::body::Body;
-use crate::declared::{in_own_text, text_of};
+use crate::declared::{declared, in_own_text, text_of};
+use crate::placed::PlacedError;
 use crate::progress::Progress;
 use crate::task::{Elaborated, Task, Text};
 use std::alloc::Global;
@@ -26,14 +29,13 @@ use strc_semantics::constants::Constants;
 use strc_semantics::typed_scope::TypedScope;
 use strc_semantics::types::ValueType;
 use strc_statements::captures::captures;
-use strc_statements::declared::declared;
 use strc_statements::error::{ElabError, ElabErrorKind};
 use strc_statements::store::Store;
 use strc_statements::types::passes_items;
 use strc_stream::stream::Stream;
 use strc_syntax::tree::{Child, Decl, Expr, Role, StreamType};
 
-impl<F: Fn(Task) -> Result<Elaborated, ElabError>> Body<'_, F> {
+impl<F: Fn(Task) -> Result<Elaborated, PlacedError>> Body<'_, F> {
     /// Elaborates a child.
     pub(crate) fn child(
         &self,
@@ -47,6 +49,9 @@ impl<F: Fn(Task) -> Result<Elaborated, ElabError>> Body<'_, F> {
             (progress_of progress.old)) result (progress_of progress.new) }
         ensures names { OnOk result (progress.new.store.variables.names
             ≡ progress.old.store.variables.names) }
+        ensures here { Stands result (child_place (tracing_of self.now.task)
+            progress.old.store.variables.names child.now (progress_of progress.old)
+            progress.old.here) progress.old.here progress.new.here }
     {
         match child {
             Child::Named(name, Some(arguments)) => self.named(role, name, arguments, progress),
@@ -81,8 +86,14 @@ impl<F: Fn(Task) -> Result<Elaborated, ElabError>> Body<'_, F> {
             (progress_of progress.old)) result (progress_of progress.new) }
         ensures names { OnOk result (progress.new.store.variables.names
             ≡ progress.old.store.variables.names) }
+        ensures here { Stands result (found_place (tracing_of self.now.task)
+            (spec.named_found (setting_of self.now.task) progress.old.store.variables.names name.now
+            (texts.declared_from 0 (program_of self.now.task) name.now)
+            (map expr_view arguments.now) (store_of progress.old.store))
+            (named_source self.now.task.declarations.now name.now) (progress_of progress.old)
+            progress.old.here) progress.old.here progress.new.here }
     {
-        match declared(self.task.declarations, self.task.numbers, name.as_bytes()) {
+        match declared(&self.task, name.as_bytes()) {
             Some((number, declaration)) => self.call(
                 role,
                 number,
@@ -114,6 +125,11 @@ impl<F: Fn(Task) -> Result<Elaborated, ElabError>> Body<'_, F> {
             (progress_of progress.new) }
         ensures names { OnOk result (progress.new.store.variables.names
             ≡ progress.old.store.variables.names) }
+        ensures here { Stands result (found_place (tracing_of self.now.task)
+            (spec.named_found (setting_of self.now.task) progress.old.store.variables.names []
+            (Some (number, declaration_view declaration.now)) (map expr_view arguments.now)
+            (store_of progress.old.store)) (declaration_source declaration.now)
+            (progress_of progress.old) progress.old.here) progress.old.here progress.new.here }
     {
         let parameters = parameters_of(declaration);
         if arguments.len() != parameters.len() {
@@ -164,6 +180,10 @@ impl<F: Fn(Task) -> Result<Elaborated, ElabError>> Body<'_, F> {
             (progress_of progress.old)) result (progress_of progress.new) }
         ensures names { OnOk result (progress.new.store.variables.names
             ≡ progress.old.store.variables.names) }
+        ensures here { Stands result (found_place (tracing_of self.now.task)
+            (Ok (spec.unnamed_found (setting_of self.now.task) progress.old.store.variables.names
+            (text_view text.entry) (store_of progress.old.store))) (text_source text.entry)
+            (progress_of progress.old) progress.old.here) progress.old.here progress.new.here }
     {
         let constants = captures(
             self.task.alloc,
@@ -189,6 +209,10 @@ impl<F: Fn(Task) -> Result<Elaborated, ElabError>> Body<'_, F> {
             (progress_of progress.old)) result (progress_of progress.new) }
         ensures names { OnOk result (progress.new.store.variables.names
             ≡ progress.old.store.variables.names) }
+        ensures here { Stands result (found_place (tracing_of self.now.task)
+            (Ok (spec.built_in_found (setting_of self.now.task) (text_view text.entry)
+            (store_of progress.old.store))) (text_source text.entry) (progress_of progress.old)
+            progress.old.here) progress.old.here progress.new.here }
     {
         let constants = Constants::new(self.task.alloc);
         self.elaborated(
@@ -201,8 +225,8 @@ impl<F: Fn(Task) -> Result<Elaborated, ElabError>> Body<'_, F> {
         )
     }
 
-    /// Elaborates a text one level below, and adds what is made. A refusal that is the text's own
-    /// is at the name of its declaration, where it has one.
+    /// Elaborates a text one level below, and adds what is made. A refusal of what the text itself
+    /// says, without a place in it, is at the name of its declaration, where it has one.
     #[tactic(auto, unfolding(crate::specs::Tasks::IsReady))]
     fn elaborated(
         &self,
@@ -224,6 +248,15 @@ impl<F: Fn(Task) -> Result<Elaborated, ElabError>> Body<'_, F> {
             (progress_of progress.old)) result (progress_of progress.new) }
         ensures names { OnOk result (progress.new.store.variables.names
             ≡ progress.old.store.variables.names) }
+        ensures here { Stands result (found_place (tracing_of self.now.task)
+            (Ok (record {
+              place = record { declaration = declaration; constants = constants.now };
+              text =
+                  text_view text.entry;
+              store = store_of progress.old.store;
+            }))
+            (text_source text.entry) (progress_of progress.old) progress.old.here)
+            progress.old.here progress.new.here }
     {
         let answer = (self.elaborate)(Task {
             alloc: self.task.alloc,
@@ -235,7 +268,7 @@ impl<F: Fn(Task) -> Result<Elaborated, ElabError>> Body<'_, F> {
             text,
             totals: progress.totals(),
         });
-        let elaborated = in_own_text(own, answer)?;
+        let elaborated = given_below(in_own_text(own, answer), &mut progress.here)?;
         progress.store.turns = elaborated.totals.turns;
         progress.filters = elaborated.totals.filters;
         let stream = added_here(self.task.alloc, progress.here, elaborated.stream)?;
@@ -258,6 +291,7 @@ impl<F: Fn(Task) -> Result<Elaborated, ElabError>> Body<'_, F> {
             (elaborated_by progress.old stream types)) result (progress_of progress.new) }
         ensures names { OnOk result (progress.new.store.variables.names
             ≡ progress.old.store.variables.names) }
+        ensures here { progress.new.here ≡ progress.old.here }
     {
         if !progress.may_add(types) {
             return self.mismatch(Mismatch::Follows);
@@ -279,6 +313,7 @@ impl<F: Fn(Task) -> Result<Elaborated, ElabError>> Body<'_, F> {
             (elaborated_by progress.old stream types)) result (progress_of progress.new) }
         ensures names { OnOk result (progress.new.store.variables.names
             ≡ progress.old.store.variables.names) }
+        ensures here { progress.new.here ≡ progress.old.here }
     {
         if !passes_items(types) {
             return self.mismatch(Mismatch::LoopChild);
@@ -299,12 +334,29 @@ impl<F: Fn(Task) -> Result<Elaborated, ElabError>> Body<'_, F> {
             (elaborated_by progress.old stream types)) result (progress_of progress.new) }
         ensures names { OnOk result (progress.new.store.variables.names
             ≡ progress.old.store.variables.names) }
+        ensures here { progress.new.here ≡ progress.old.here }
     {
         if !passes_items(types) {
             return self.mismatch(Mismatch::LoopChild);
         }
         progress.looped = Some(Box::new(self.task.alloc, stream)?);
         Ok(())
+    }
+}
+
+/// What a text one level below gives. A refusal is where it is within that text, if that is known.
+fn given_below(
+    answer: Result<Elaborated, PlacedError>,
+    here: &mut Option<Span>,
+) -> Result<Elaborated, ElabError>
+    ensures { IsFrom answer result here.old here.new }
+{
+    match answer {
+        Ok(elaborated) => Ok(elaborated),
+        Err(refused) => {
+            *here = refused.place.or(*here);
+            Err(refused.error)
+        }
     }
 }
 

@@ -5,11 +5,13 @@ ghost use Rattle.strc_syntax.specs.View.{expr_view, composition_view, child_view
 ghost use Rattle.strc_syntax.specs.Tree as tree;
 ghost use Rattle.strc_statements.specs.Saying.{store_of};
 ghost use Rattle.strc_statements.specs.declared.error.ElabErrorKind.TheVariants as refused;
-ghost use Rattle.strc_elab.specs.Answering.{progress_of, Runs, Lists, Splits};
+ghost use Rattle.strc_elab.specs.Answering.{progress_of, Runs, Lists, Splits, Stands};
 ghost use Rattle.strc_elab.specs.Elaboration as spec;
-ghost use Rattle.strc_elab.specs.Tasks.{IsReady, setting_of};
+ghost use Rattle.strc_elab.specs.Places.{composed_place, added_place};
+ghost use Rattle.strc_elab.specs.Tasks.{IsReady, setting_of, tracing_of};
 
 use crate::body::Body;
+use crate::placed::PlacedError;
 use crate::progress::Progress;
 use crate::task::{Elaborated, Task};
 use strc_check::site::{Mismatch, Part};
@@ -28,7 +30,7 @@ fn part_of(role: Role) -> Part {
     }
 }
 
-impl<F: Fn(Task) -> Result<Elaborated, ElabError>> Body<'_, F> {
+impl<F: Fn(Task) -> Result<Elaborated, PlacedError>> Body<'_, F> {
     /// Does a stream statement.
     pub(crate) fn compose(
         &self,
@@ -41,6 +43,9 @@ impl<F: Fn(Task) -> Result<Elaborated, ElabError>> Body<'_, F> {
             (progress_of progress.old)) result (progress_of progress.new) }
         ensures names { OnOk result (progress.new.store.variables.names
             ≡ progress.old.store.variables.names) }
+        ensures here { Stands result (composed_place (tracing_of self.now.task)
+            progress.old.store.variables.names composition.now (progress_of progress.old)
+            progress.old.here) progress.old.here progress.new.here }
     {
         match composition {
             Composition::Child(role, child) => self.child_for(*role, child, progress),
@@ -66,6 +71,9 @@ impl<F: Fn(Task) -> Result<Elaborated, ElabError>> Body<'_, F> {
             (progress_of progress.old)) result (progress_of progress.new) }
         ensures names { OnOk result (progress.new.store.variables.names
             ≡ progress.old.store.variables.names) }
+        ensures here { Stands result (added_place (tracing_of self.now.task)
+            progress.old.store.variables.names role child.now (progress_of progress.old)
+            progress.old.here) progress.old.here progress.new.here }
     {
         if progress.may_have(role) {
             self.child(role, child, progress)
@@ -81,6 +89,7 @@ impl<F: Fn(Task) -> Result<Elaborated, ElabError>> Body<'_, F> {
             (progress_of progress.old)) result (progress_of progress.new) }
         ensures names { OnOk result (progress.new.store.variables.names
             ≡ progress.old.store.variables.names) }
+        ensures here { progress.new.here ≡ progress.old.here }
     {
         if !progress.may_split() {
             return self.mismatch(progress.no_room_for(Part::Split));
@@ -98,6 +107,7 @@ impl<F: Fn(Task) -> Result<Elaborated, ElabError>> Body<'_, F> {
             (progress_of progress.old)) result (progress_of progress.new) }
         ensures names { OnOk result (progress.new.store.variables.names
             ≡ progress.old.store.variables.names) }
+        ensures here { progress.new.here ≡ progress.old.here }
     {
         if !progress.may_join() {
             return self.mismatch(progress.no_room_for(Part::Join));
@@ -115,6 +125,7 @@ impl<F: Fn(Task) -> Result<Elaborated, ElabError>> Body<'_, F> {
             (progress_of progress.old)) result (progress_of progress.new) }
         ensures names { OnOk result (progress.new.store.variables.names
             ≡ progress.old.store.variables.names) }
+        ensures here { progress.new.here ≡ progress.old.here }
     {
         if !progress.may_enqueue() {
             return self.mismatch(progress.no_room_for(Part::Enqueue));

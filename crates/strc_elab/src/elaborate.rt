@@ -1,12 +1,15 @@
 // From a program's tree to the stream that it means.
 
-ghost use Rattle.std.specs.Prelude.{◌≡◌, ℕ, List, map, nat_eq, IfOk};
+ghost use Rattle.std.specs.Prelude.{◌≡◌, ℕ, List, Some, map, nat_eq, slice_get, IfOk};
 ghost use Rattle.std.specs.Option.{option_map};
 ghost use Rattle.std.specs.Cmp.Lexicographic.{pointwise};
 ghost use Rattle.indexmap.specs.IndexMap.{get_by};
 ghost use Rattle.strc_syntax.specs.View.{declaration_view, program_view};
+ghost use Rattle.strc_elab.specs.Answering.{IsPlacedVerdict, IsPlaced};
 ghost use Rattle.strc_elab.specs.Elaboration as spec;
+ghost use Rattle.strc_elab.specs.Places.{main_place, program_place};
 ghost use Rattle.strc_statements.specs.Answers.{IsVerdict};
+ghost use Rattle.strc_statements.specs.MainStreams as main_streams;
 ghost use Rattle.strc_statements.specs.Names.{place_from};
 ghost use Rattle.strc_elab.specs.Sound.{IsElaborated};
 ghost use Rattle.strc_elab.specs.Tasks.{elaborated_view};
@@ -14,6 +17,7 @@ ghost use Rattle.strc_stream.specs.View.{stream_view};
 
 use crate::declared::{in_own_text, text_of};
 use crate::level::elaborate_text;
+use crate::placed::PlacedError;
 use crate::task::{Elaborated, Task, Totals};
 use indexmap::IndexMap;
 use std::alloc::Global;
@@ -38,11 +42,48 @@ pub fn elaborate(alloc: Global, program: &Program, main: Option<&str>) -> Result
         (option_map (λ n. n.now) main.entry)) result }
     ensures sound { IfOk result (λ stream. IsElaborated (stream_view stream)) }
 {
+    match elaborate_placed(alloc, program, main) {
+        Ok(stream) => Ok(stream),
+        Err(refused) => Err(refused.error.or_at(refused.place)),
+    }
+}
+
+/// The same; a refusal has the place of the innermost statement that ran, or in a filter's text of
+/// the innermost statement, rate or declaration of fields around what breaks the rule. It has none
+/// where there is no such statement, and any where memory runs out.
+pub fn elaborate_placed(
+    alloc: Global,
+    program: &Program,
+    main: Option<&str>,
+) -> Result<Stream, PlacedError>
+    ensures verdict { IsPlacedVerdict stream_view (spec.elaborated (program_view program.now)
+        (option_map (λ n. n.now) main.entry)) result }
+    ensures place { IsPlaced (program_place program.now.declarations.items
+        (option_map (λ n. n.now) main.entry)) result }
+    ensures sound { IfOk result (λ stream. IsElaborated (stream_view stream)) }
+{
     let declarations = program.declarations.as_slice();
     let numbers = index_of(alloc, declarations)?;
-    let (number, declaration) = main_of(declarations, &numbers, main)?;
+    let (number, declaration) = main_declaration(declarations, &numbers, main)?;
     let elaborated = main_elaborated(alloc, declarations, &numbers, number, declaration)?;
     Ok(elaborated.stream)
+}
+
+/// The main stream's declaration, with its number.
+fn main_declaration<'a>(
+    declarations: &'a [Decl],
+    numbers: &IndexMap<&[u8], usize>,
+    main: Option<&str>,
+) -> Result<(usize, &'a Decl), ElabError>
+    requires { (q : List ℕ) → get_by (λ k. pointwise nat_eq q k.now) numbers.now
+        ≡ place_from 0 (map (λ d. d.name) declarations.now) q }
+    ensures verdict { IsVerdict (λ m. (m.0, declaration_view m.1.now))
+        (main_streams.main_of (map declaration_view declarations.now)
+        (option_map (λ n. n.now) main.entry)) result }
+    ensures declared { IfOk result (λ m. slice_get declarations.now m.0 ≡ Some m.1.now) }
+{
+    let (number, _) = main_of(declarations, numbers, main)?;
+    Ok((number, &declarations[number]))
 }
 
 /// What the main stream's text means.
@@ -52,12 +93,14 @@ fn main_elaborated(
     numbers: &IndexMap<&[u8], usize>,
     number: usize,
     declaration: &Decl,
-) -> Result<Elaborated, ElabError>
-    requires { (q : List ℕ) → get_by (λ k. pointwise nat_eq q k.now) numbers.now
+) -> Result<Elaborated, PlacedError>
+    requires declared { slice_get declarations.now number ≡ Some declaration.now }
+    requires names { (q : List ℕ) → get_by (λ k. pointwise nat_eq q k.now) numbers.now
         ≡ place_from 0 (map (λ d. d.name) declarations.now) q }
-    ensures { IsVerdict elaborated_view
+    ensures verdict { IsPlacedVerdict elaborated_view
         (spec.main_elaborated (map declaration_view declarations.now)
         (number, declaration_view declaration.now)) result }
+    ensures place { IsPlaced (main_place declarations.now number) result }
 {
     let constants = Constants::new(alloc);
     let answer = elaborate_text(Task {

@@ -4,16 +4,17 @@
 ghost use Rattle.strc_elab.specs.Tasks.{KnowsNames, IsTaskVerdict};
 
 use crate::body::Body;
+use crate::placed::PlacedError;
 use crate::task::{Elaborated, Task};
 use strc_statements::error::{ElabError, ElabErrorKind};
 
 /// The instances that a text means, with so many levels as the task allows.
-pub(crate) fn elaborate_text(task: Task) -> Result<Elaborated, ElabError>
+pub(crate) fn elaborate_text(task: Task) -> Result<Elaborated, PlacedError>
     requires { KnowsNames task }
     ensures { IsTaskVerdict task.entry result }
 {
     if task.levels == 0 {
-        return Err(ElabError::from(ElabErrorKind::DepthLimit));
+        return Err(PlacedError::from(ElabError::from(ElabErrorKind::DepthLimit)));
     }
     let body = Body {
         task,

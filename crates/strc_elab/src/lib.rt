@@ -1,7 +1,8 @@
 // Takes a program's tree.
 // Gives the stream of instances that its main stream means. The theorem to rely on: `elaborate`
 // answers the stream that the definitions give, or the first rule that is broken; a stream that it
-// answers is closed, and its types fit.
+// answers is closed, and its types fit. `elaborate_placed` answers the same, a refusal with the
+// place of the statement that broke the rule.
 // Stands on strc_statements, which finds declarations, deals weights and has the steps of a body's
 // statements, on strc_work, whose codes filters get, on strc_stream and strc_graph, whose streams
 // and splitters it makes, and on indexmap.
@@ -15,6 +16,7 @@ mod declared;
 pub mod elaborate;
 pub mod laws;
 mod level;
+pub mod placed;
 mod progress;
 mod task;
 mod text;

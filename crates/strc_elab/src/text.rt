@@ -1,19 +1,22 @@
 // What the text of a stream means: its instances.
 
-ghost use Rattle.std.specs.Prelude.{◌≡◌, [], IfOk, Ok};
+ghost use Rattle.std.specs.Prelude.{◌≡◌, [], IfOk, Ok, None};
 ghost use Rattle.std.specs.Option.{option_map};
 ghost use Rattle.strc_syntax.specs.View.{block_view};
 ghost use Rattle.strc_semantics.specs.Filters.{filter_of, filter_parts};
 ghost use Rattle.strc_semantics.specs.Firing as firing;
 ghost use Rattle.strc_elab.specs.Elaboration as spec;
 ghost use Rattle.strc_statements.specs.Answers.{IsVerdict};
-ghost use Rattle.strc_elab.specs.Answering.{progress_of};
+ghost use Rattle.strc_elab.specs.Answering.{progress_of, IsPlacedVerdict, IsPlaced};
+ghost use Rattle.strc_elab.specs.Places.{instance_place, block_place, composite_place, text_place};
+ghost use Rattle.strc_elab.specs.Sources.{FilterSource, text_source};
 ghost use Rattle.strc_elab.specs.Totals.{totals_view};
-ghost use Rattle.strc_elab.specs.Tasks.{IsReady, setting_of, place_of, totals_of, text_view};
-ghost use Rattle.strc_elab.specs.Tasks.{elaborated_view};
+ghost use Rattle.strc_elab.specs.Tasks.{IsReady, setting_of, tracing_of, place_of, totals_of};
+ghost use Rattle.strc_elab.specs.Tasks.{text_view, elaborated_view};
 ghost use Rattle.strc_statements.specs.Texts as texts;
 
 use crate::body::Body;
+use crate::placed::PlacedError;
 use crate::progress::Progress;
 use crate::task::{Elaborated, Task, Text, Totals};
 use std::alloc::{AllocError, Global};
@@ -73,19 +76,25 @@ fn copied(name: Option<&Name>) -> Result<Option<Name>, AllocError>
 impl Task<'_> {
     /// An instance of a filter: its constants are substituted, its text is checked, and then its
     /// initialisers and `init` run.
-    fn instance(&self, types: StreamType, members: &[Member]) -> Result<Code, ElabError>
-        ensures { IsVerdict filter_of (spec.instance_of (place_of self.now)
+    fn instance(&self, types: StreamType, members: &[Member]) -> Result<Code, PlacedError>
+        ensures verdict { IsPlacedVerdict filter_of (spec.instance_of (place_of self.now)
             (filter_parts types.input types.output members.now)) result }
+        ensures place { IsPlaced (instance_place (place_of self.now) types members.now) result }
     {
+        let mut here = None;
         match lower_parts(
             self.alloc,
             types.input,
             types.output,
             members,
             self.constants,
+            &mut here,
         ) {
-            Ok(code) => started(self.alloc, code),
-            Err(error) => Err(at_declaration(self.declaration, error)),
+            Ok(code) => Ok(started(self.alloc, code)?),
+            Err(error) => Err(PlacedError {
+                error: at_declaration(self.declaration, error),
+                place: here,
+            }),
         }
     }
 
@@ -95,10 +104,12 @@ impl Task<'_> {
         name: Option<&Name>,
         types: StreamType,
         members: &[Member],
-    ) -> Result<Elaborated, ElabError>
-        ensures { IsVerdict elaborated_view (spec.text_elaborated (setting_of self.now)
-            (texts.FilterText (option_map (λ n. n.now) name.entry)
+    ) -> Result<Elaborated, PlacedError>
+        ensures verdict { IsPlacedVerdict elaborated_view (spec.text_elaborated
+            (setting_of self.now) (texts.FilterText (option_map (λ n. n.now) name.entry)
             (filter_parts types.input types.output members.now)) (totals_of self.now)) result }
+        ensures place { IsPlaced (text_place (tracing_of self.now)
+            (FilterSource types members.now) (totals_of self.now)) result }
     {
         let totals = self.totals.one_more()?;
         let name = copied(name)?;
@@ -169,6 +180,7 @@ impl Task<'_> {
     fn initial_progress(&self, kind: CompositeKind) -> Progress
         ensures progress { progress_of result ≡ spec.initial_progress kind (totals_of self.now) }
         ensures names { result.store.variables.names ≡ [] }
+        ensures here { result.here ≡ None }
     {
         Progress {
             kind,
@@ -191,31 +203,42 @@ impl Task<'_> {
     }
 }
 
-impl<F: Fn(Task) -> Result<Elaborated, ElabError>> Body<'_, F> {
+impl<F: Fn(Task) -> Result<Elaborated, PlacedError>> Body<'_, F> {
     /// The stream of the task's text.
-    pub(crate) fn text_elaborated(&self) -> Result<Elaborated, ElabError>
+    pub(crate) fn text_elaborated(&self) -> Result<Elaborated, PlacedError>
         requires { IsReady self.now.task (F.pre self.now.elaborate) (F.post self.now.elaborate) }
-        ensures { IsVerdict elaborated_view (spec.text_elaborated (setting_of self.now.task)
-            (text_view self.now.task.text) (totals_of self.now.task)) result }
+        ensures verdict { IsPlacedVerdict elaborated_view (spec.text_elaborated
+            (setting_of self.now.task) (text_view self.now.task.text)
+            (totals_of self.now.task)) result }
+        ensures place { IsPlaced (text_place (tracing_of self.now.task)
+            (text_source self.now.task.text) (totals_of self.now.task)) result }
     {
         match self.task.text {
             Text::Filter(name, types, members) => self.task.filter(name, types, members),
             Text::Composite(written, kind, block) => self.composite(written, kind, block),
-            Text::Identity => self.task.identity(),
-            Text::Reader(text) => self.task.reader(text),
-            Text::Writer(text) => self.task.writer(text),
+            Text::Identity => Ok(self.task.identity()?),
+            Text::Reader(text) => Ok(self.task.reader(text)?),
+            Text::Writer(text) => Ok(self.task.writer(text)?),
         }
     }
 
     /// Runs the body of the task's text from the beginning.
-    fn run(&self, kind: CompositeKind, block: &[Stmt]) -> Result<Progress, ElabError>
+    fn run(&self, kind: CompositeKind, block: &[Stmt]) -> Result<Progress, PlacedError>
         requires { IsReady self.now.task (F.pre self.now.elaborate) (F.post self.now.elaborate) }
-        ensures { IsVerdict progress_of (spec.stmts_run (setting_of self.now.task) [] 0
-            (block_view block.now) (spec.initial_progress kind (totals_of self.now.task))) result }
+        ensures verdict { IsPlacedVerdict progress_of (spec.stmts_run (setting_of self.now.task) []
+            0 (block_view block.now) (spec.initial_progress kind (totals_of self.now.task)))
+            result }
+        ensures place { IsPlaced (block_place (tracing_of self.now.task) [] 0 block.now
+            (spec.initial_progress kind (totals_of self.now.task)) None) result }
     {
         let mut progress = self.task.initial_progress(kind);
-        self.statements(0, block, &mut progress)?;
-        Ok(progress)
+        match self.statements(0, block, &mut progress) {
+            Ok(()) => Ok(progress),
+            Err(error) => Err(PlacedError {
+                error,
+                place: progress.here,
+            }),
+        }
     }
 
     /// A composite stream: its body runs.
@@ -224,13 +247,15 @@ impl<F: Fn(Task) -> Result<Elaborated, ElabError>> Body<'_, F> {
         written: Option<StreamType>,
         kind: CompositeKind,
         block: &[Stmt],
-    ) -> Result<Elaborated, ElabError>
+    ) -> Result<Elaborated, PlacedError>
         requires { IsReady self.now.task (F.pre self.now.elaborate) (F.post self.now.elaborate) }
-        ensures { IsVerdict elaborated_view
+        ensures verdict { IsPlacedVerdict elaborated_view
             (spec.composite_elaborated (setting_of self.now.task) written
             kind (block_view block.now) (totals_of self.now.task)) result }
+        ensures place { IsPlaced (composite_place (tracing_of self.now.task) kind block.now
+            (totals_of self.now.task)) result }
     {
         let mut progress = self.run(kind, block)?;
-        self.task.composite_assembly(kind, written, &mut progress)
+        Ok(self.task.composite_assembly(kind, written, &mut progress)?)
     }
 }

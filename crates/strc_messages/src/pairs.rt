@@ -10,11 +10,11 @@ use strc_base::place::Span;
 use strc_check::site::{Mismatch, Site};
 use strc_places::known::Known;
 use strc_places::origins::statement_of;
+use strc_places::pairs::pair_of;
 use strc_refusal::refusal::Refusal;
 use strc_refusal::refused::Refused;
 use strc_source::message::Message;
 use strc_source::place::place_of;
-use strc_source::preorder::Preorder;
 use strc_source::source::Source;
 use strc_statements::main_stream::can_be_main;
 
@@ -94,49 +94,6 @@ fn two_nodes(known: Known<'_>, refusal: &Refusal) -> Result<Option<Vec<u8>>, NoM
     message.hint()?;
     message.add(pair_hint(refusal))?;
     Ok(Some(source.message(alloc, place, message)?))
-}
-
-/// The first two nodes that don't go together.
-fn pair_of(
-    alloc: Global,
-    order: &Preorder,
-    refusal: &Refusal,
-) -> Result<Option<(usize, usize)>, NoMemory> {
-    match refusal {
-        Refusal::TwoInputs => Ok(two_readers(order)),
-        Refusal::TapeTwice { node } => Ok(two_writers(order, *node)),
-        _ => match order.first_apart(alloc)? {
-            Some(node) => Ok(Some((0, node))),
-            None => Ok(None),
-        },
-    }
-}
-
-/// The first writer of a node's file, and the node.
-fn two_writers(order: &Preorder, node: usize) -> Option<(usize, usize)> {
-    let file = order.nodes.get(node)?.file.as_ref()?;
-    for (number, seen) in order.nodes.iter().enumerate() {
-        if let Some(other) = &seen.file {
-            if other.as_slice() == file.as_slice() {
-                return Some((number, node));
-            }
-        }
-    }
-    None
-}
-
-/// The first two nodes that take the input.
-fn two_readers(order: &Preorder) -> Option<(usize, usize)> {
-    let mut first = None;
-    for (number, seen) in order.nodes.iter().enumerate() {
-        if seen.reads {
-            match first {
-                Some(first) => return Some((first, number)),
-                None => first = Some(number),
-            }
-        }
-    }
-    None
 }
 
 fn joining_words(refusal: &Refusal) -> &'static [u8] {

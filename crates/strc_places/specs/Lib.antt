@@ -1,8 +1,11 @@
 pub mod Additions
 pub mod Keywords
+pub mod Large
+pub mod Nesting
 pub mod Nodes
 pub mod OccurrencePlaces
 pub mod Occurrences
+pub mod Pairs
 pub mod Parts
 pub mod Refused
 pub mod Statements

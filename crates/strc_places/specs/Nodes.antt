@@ -53,6 +53,12 @@ abbrev pub MarksNode : List ℕ → List Token → (name : Option (List ℕ)) �
 MarksNode text tokens None statement place = place ≡ heading_of tokens statement
 MarksNode text tokens (Some bytes) statement place = Marks text tokens bytes place
 
+-- the same of a node of a program, by its number
+abbrev pub MarksNodeOf : List ℕ → List Token → (asked : Option (List ℕ)) → Option Program
+    → Option Preorder → (node : ℕ) → Option Span → Type 0
+MarksNodeOf text tokens asked program order node place =
+    MarksNode text tokens (declared_name order node) (node_statement asked program order node) place
+
 -- of a statement that is found its heading is marked, or else the node that has it
 abbrev pub MarksStatement : List ℕ → List Token → (found : Option Span)
     → (name : Option (List ℕ)) → (statement : Option Span) → Option Span → Type 0
@@ -65,7 +71,8 @@ abbrev pub first_name : (source target : Option (List ℕ)) → Option (List ℕ
 first_name (Some name) target = Some name
 first_name None target = target
 
--- of a channel the node at its source is marked where it is declared, or else the one at its target
+-- of a channel the node at its source is marked where it is declared, or else the one at its
+-- target; with neither declared the statement that one of them comes from
 abbrev pub MarksChannel : List ℕ → List Token → (asked : Option (List ℕ)) → Option Program
     → Option Preorder → (ends : Option (ℕ × ℕ)) → Option Span → Type 0
 MarksChannel text tokens asked program order ends place =

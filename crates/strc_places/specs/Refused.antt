@@ -36,7 +36,8 @@ use Rattle.strc_places.specs.Nodes.{MarksName}
 use Rattle.strc_source.specs.Operators.{faulting_part}
 use Rattle.strc_source.specs.Spelling.{MarksFrom}
 use Rattle.strc_places.specs.Streams.{IsRecursive}
-use Rattle.strc_places.specs.Statements.{fault_place, start_fault_place, uncounted_place, outside_place}
+use Rattle.strc_places.specs.Statements.{fault_place, start_fault_place, uncounted_place}
+use Rattle.strc_places.specs.Statements.{outside_place}
 
 -- the declared rate of a kind: a missing one is 0, and a missing peek rate is the pop rate
 abbrev pub declared_rate : RateKind → Body → Filter → ℤ
@@ -120,9 +121,9 @@ abbrev pub outside_at : Option GraphParts → ℕ → Option Span
 outside_at graph number = option_and_then outside_place (tree_at graph number)
 
 -- the same of the filter of a node
-abbrev pub MarksNode : List ℕ → List Token → Option GraphParts → ℕ
+abbrev pub MarksRateOf : List ℕ → List Token → Option GraphParts → ℕ
     → (Filter → RateKind → Body → Bool) → Option Span → Type 0
-MarksNode text tokens graph number breaks place = IfSome (filter_at graph number)
+MarksRateOf text tokens graph number breaks place = IfSome (filter_at graph number)
     (λ filter. MarksRate text tokens filter (breaks filter) place)
 
 -- a refusal of a type, a kind or a part, of arguments or of weights
@@ -172,8 +173,8 @@ abbrev pub filter_name : Option Node → Option (List ℕ)
 filter_name (Some (node.Filter instance)) = instance.name
 filter_name _ = None
 
--- what is marked of a fault in a firing of a node, of this body: the part of the only statement that
--- can fault so, or else the name of its filter
+-- what is marked of a fault in a firing of a node, of this body: the part of the only statement
+-- that can fault so, or else the name of its filter
 abbrev pub MarksFaultOf : List ℕ → List Token → Cause → Body → Option Node → Option Span → Type 0
 MarksFaultOf text tokens cause body faulting place =
     MarksPart text tokens cause (filter_name faulting)

@@ -119,8 +119,8 @@ fault_places cause.Calls body filter = helpers_places sought.Call filter.members
 abbrev pub fault_place : Cause → Body → FilterTree → Option Span
 fault_place cause body filter = single_place (fault_places cause body filter)
 
--- where what a filter starts with can fault so; only a call in a helper function can be one too many
--- at once
+-- where what a filter starts with can fault so; only a call in a helper function can be one too
+-- many at once
 abbrev pub start_fault_places : Cause → List Member → List (Option Span)
 start_fault_places cause.Calls members = helpers_places sought.Call members
 start_fault_places other members = start_places (sought_for other) members

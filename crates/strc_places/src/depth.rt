@@ -1,5 +1,8 @@
 // Where statements or expressions become nested too deep.
 
+ghost use Rattle.std.specs.Prelude.{◌≡◌, ◌<◌, true, false, IfOk};
+ghost use Rattle.strc_places.specs.Nesting.{AreShallow, AreTooDeep, MarksNesting};
+
 use std::alloc::Global;
 use strc_base::memory::NoMemory;
 use strc_base::place::Span;
@@ -7,22 +10,21 @@ use strc_lex::token::Token;
 use strc_parse::{ParseError, parse};
 
 /// More tokens aren't read again.
-const LONGEST: usize = 100_000;
+pub const LONGEST: usize = 100_000;
 
-/// The token at which the nesting gets too deep: the last one of the shortest beginning that is
-/// refused for it.
-pub fn deepest_token(alloc: Global, tokens: &[Token]) -> Result<Option<Span>, NoMemory> {
+/// The token at which the nesting gets too deep: the last one of a beginning that is refused for
+/// it, where the beginning without it isn't.
+pub fn deepest_token(alloc: Global, tokens: &[Token]) -> Result<Option<Span>, NoMemory>
+    ensures { AreTooDeep tokens.now → IfOk result (MarksNesting tokens.now) }
+{
     if tokens.len() > LONGEST {
         return Ok(None);
     }
     let mut least: usize = 0;
     let mut most = tokens.len();
-    for _half in 0..64 {
-        let middle = least.saturating_add(most.saturating_sub(least) / 2);
-        if middle == least {
-            break;
-        }
-        if is_too_deep(alloc, tokens, middle)? {
+    while most - least > 1 {
+        let middle = least + (most - least) / 2;
+        if is_too_deep(alloc, &tokens[..middle])? {
             most = middle;
         } else {
             least = middle;
@@ -34,11 +36,14 @@ pub fn deepest_token(alloc: Global, tokens: &[Token]) -> Result<Option<Span>, No
     }
 }
 
-/// Whether the beginning of so many tokens is nested too deep.
-fn is_too_deep(alloc: Global, tokens: &[Token], count: usize) -> Result<bool, NoMemory> {
-    match parse(alloc, &tokens[..count.min(tokens.len())]) {
+/// Whether tokens are nested too deep.
+fn is_too_deep(alloc: Global, tokens: &[Token]) -> Result<bool, NoMemory>
+    ensures deep { IfOk result (λ is. is ≡ true → AreTooDeep tokens.now) }
+    ensures shallow { IfOk result (λ is. is ≡ false → AreShallow tokens.now) }
+{
+    match parse(alloc, tokens) {
         Err(ParseError::Nesting) => Ok(true),
         Err(ParseError::NoMemory) => Err(NoMemory),
-        _ => Ok(false),
+        Err(ParseError::Parse { .. }) | Ok(_) => Ok(false),
     }
 }

@@ -43,8 +43,11 @@ impl<'a> Known<'a> {
         }
     }
 
-    /// The name of a declaration, by the declaration's number.
-    pub fn declaration_numbered(self, number: usize) -> Option<Span> {
+    /// Where the name of a declaration is written, by the declaration's number.
+    pub fn declaration_numbered(self, number: usize) -> Option<Span>
+        ensures { parts.MarksDeclaration self.entry.source.text.now self.entry.source.tokens.now
+            (parts.declaration_at (option_map (λ p. p.now) self.entry.program) number) result }
+    {
         self.place_of_name(self.declarations().get(number)?)
     }
 

@@ -10,11 +10,14 @@
 // is says `uncounted_statement` of one that can't be counted, `peek_outside` of one that looks too
 // far, `recursive_statement` of one that adds its own stream, `faulting_statement` and
 // `faulting_start` of the only one that can fault so, and `statement_of` of a node's; of other
-// refusals it is the site's.
+// refusals it is the site's. That the token marked of a text that is nested too deep is the one
+// where it gets so is tested: what specs/Nesting says holds of nearly any late one. `pair_of` gives
+// the first two nodes that take the input, that write to one file, or that no channels join.
 // Stands on strc_source, which knows the text's tokens and the stream's nodes, on strc_refusal,
 // whose refusals these are, on strc_statements, which says what can be the main stream, on
 // strc_stream, strc_graph and strc_code, whose filters know their text, on strc_rate and
-// strc_interval, which count and compute it, and on strc_parse, which reads the text's own tree.
+// strc_interval, which count and compute it, on strc_parse, which reads the text's own tree, and on
+// strc_grammar, which says what is nested too deep.
 #![tactic(auto)]
 
 pub mod bodies;
@@ -25,6 +28,7 @@ pub mod known;
 pub mod moved;
 pub mod occurrences;
 pub mod origins;
+pub mod pairs;
 pub mod places;
 pub mod recursion;
 pub mod starts;

@@ -102,7 +102,7 @@ fn place_of_ends(known: Known<'_>, from: usize, to: usize) -> Option<Span>
 }
 
 /// The nodes at the two ends of a channel.
-pub fn ends_of(known: Known<'_>, channel: usize) -> Option<(usize, usize)>
+fn ends_of(known: Known<'_>, channel: usize) -> Option<(usize, usize)>
     ensures { result ≡ spec.ends_of (option_map (λ g. g.now) known.entry.graph) channel }
 {
     let found = known.graph?.channels().get(channel)?;

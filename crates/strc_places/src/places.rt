@@ -12,6 +12,8 @@ ghost use Rattle.strc_check.specs.declared.site.Part.{Part};
 ghost use Rattle.strc_check.specs.declared.site.Mismatch.TheVariants as mismatched;
 ghost use Rattle.strc_source.specs.Headings.{heading};
 ghost use Rattle.strc_places.specs.Keywords as keywords;
+ghost use Rattle.strc_places.specs.Large as large;
+ghost use Rattle.strc_places.specs.Nesting as nesting;
 ghost use Rattle.strc_places.specs.Nodes as nodes;
 ghost use Rattle.strc_places.specs.Parts as parts;
 ghost use Rattle.strc_places.specs.Refused as refused;
@@ -23,14 +25,14 @@ use crate::bodies::{peek_outside, uncounted_statement};
 use crate::depth::deepest_token;
 use crate::known::Known;
 use crate::moved::{moved_of, place_of_rate};
-use crate::origins::{ends_of, place_of_channel, place_of_node};
+use crate::origins::{place_of_channel, place_of_node};
 use crate::recursion::recursive_statement;
 use crate::starts::faulting_start;
 use strc_base::memory::NoMemory;
 use strc_base::place::Span;
 use strc_check::site::{Mismatch, Part, Site};
 use strc_code::code::Code;
-use strc_graph::graph::Node;
+use strc_graph::graph::{Channel, Graph, Node};
 use strc_lex::token::Keyword;
 use strc_refusal::refusal::Refusal;
 use strc_semantics::fault::Cause;
@@ -63,11 +65,11 @@ pub fn place_of_refusal(
     // Of a rate that breaks a rule a place is marked that begins as it is written.
     ensures mismatch { (node declared counted : ℕ)
         → refusal.now ≡ refused_for.RateMismatch node declared counted
-        → IfOk result (refused.MarksNode known.entry.source.text.now
+        → IfOk result (refused.MarksRateOf known.entry.source.text.now
         known.entry.source.tokens.now (option_map (λ g. g.now) known.entry.graph) node
         refused.is_wrong) }
     ensures limit { (node : ℕ) → refusal.now ≡ refused_for.RateLimit node
-        → IfOk result (refused.MarksNode known.entry.source.text.now
+        → IfOk result (refused.MarksRateOf known.entry.source.text.now
         known.entry.source.tokens.now (option_map (λ g. g.now) known.entry.graph) node
         refused.is_beyond) }
     // Of a stream that lacks a part a place is marked that begins as its kind is written.
@@ -95,7 +97,7 @@ pub fn place_of_refusal(
         (option_map (λ p. p.now) known.entry.program)
         (option_map (λ n. n.now) known.entry.nodes) node)) }
     // Of a channel the name of the filter at its source is marked where it is written, or else that
-    // of the one at its target.
+    // of the one at its target; with neither declared the statement that one of them comes from.
     ensures inconsistent { (channel : ℕ) → refusal.now ≡ refused_for.Inconsistent channel
         → IfOk result (nodes.MarksChannel known.entry.source.text.now
         known.entry.source.tokens.now (option_map (λ m. m.now) known.entry.source.main)
@@ -106,6 +108,19 @@ pub fn place_of_refusal(
         known.entry.source.tokens.now (option_map (λ m. m.now) known.entry.source.main)
         (option_map (λ p. p.now) known.entry.program) (option_map (λ n. n.now) known.entry.nodes)
         (parts.ends_of (option_map (λ g. g.now) known.entry.graph) channel)) }
+    // Of counts that are too large the node that moves more items on some channel is marked, or
+    // where it has no place the channel.
+    ensures large { refusal.now ≡ refused_for.CountsTooLarge
+        → IfOk result (large.MarksLarge known.entry.source.text.now known.entry.source.tokens.now
+        (option_map (λ m. m.now) known.entry.source.main)
+        (option_map (λ p. p.now) known.entry.program) (option_map (λ n. n.now) known.entry.nodes)
+        (option_map (λ g. g.now) known.entry.graph)) }
+    // Of tokens that are refused for their height one is marked with which their beginning is no
+    // program within the limit; none where they are too many to read again. It says little:
+    // specs/Nesting.
+    ensures nesting { refusal.now ≡ refused_for.Nesting
+        → nesting.AreTooDeep known.entry.source.tokens.now
+        → IfOk result (nesting.MarksNesting known.entry.source.tokens.now) }
     // Of a statement that breaks a rule its heading is marked.
     ensures statement { (at : Span) → refused.is_of_statement refusal.now ≡ true
         → refused.lacks_part site.mismatch ≡ false → site.place ≡ Some at
@@ -176,11 +191,11 @@ fn place_of_rates(
 ) -> Result<Option<Span>, NoMemory>
     ensures mismatch { (number declared counted : ℕ)
         → refusal.now ≡ refused_for.RateMismatch number declared counted
-        → IfOk result (refused.MarksNode known.entry.source.text.now
+        → IfOk result (refused.MarksRateOf known.entry.source.text.now
         known.entry.source.tokens.now (option_map (λ g. g.now) known.entry.graph) node
         refused.is_wrong) }
     ensures limit { (number : ℕ) → refusal.now ≡ refused_for.RateLimit number
-        → IfOk result (refused.MarksNode known.entry.source.text.now
+        → IfOk result (refused.MarksRateOf known.entry.source.text.now
         known.entry.source.tokens.now (option_map (λ g. g.now) known.entry.graph) node
         refused.is_beyond) }
 {
@@ -238,24 +253,34 @@ fn heading_of(known: Known<'_>, statement: Option<Span>) -> Option<Span>
 
 /// The end of the channel whose rates make the counts of a round too large: the one that moves more
 /// items a firing, where it has a place.
-fn place_of_large(known: Known<'_>) -> Result<Option<Span>, NoMemory> {
+fn place_of_large(known: Known<'_>) -> Result<Option<Span>, NoMemory>
+    ensures { IfOk result (large.MarksLarge known.entry.source.text.now
+        known.entry.source.tokens.now (option_map (λ m. m.now) known.entry.source.main)
+        (option_map (λ p. p.now) known.entry.program) (option_map (λ n. n.now) known.entry.nodes)
+        (option_map (λ g. g.now) known.entry.graph)) }
+{
     let Some(graph) = known.graph else {
         return Ok(None);
     };
     let Some(number) = large_channel(known.alloc, graph)? else {
         return Ok(None);
     };
-    let (Some((from, to)), Some(channel)) = (ends_of(known, number), graph.channels().get(number))
-    else {
+    let Some(channel) = graph.channels().get(number) else {
         return Ok(None);
     };
-    let node = match rates_of(graph, channel) {
-        Some((push, pop)) if pop > push => to,
-        _ => from,
-    };
-    match place_of_node(known, node) {
+    match place_of_node(known, heavier(graph, channel)) {
         Some(place) => Ok(Some(place)),
         None => Ok(place_of_channel(known, number)),
+    }
+}
+
+/// The node at the end of a channel that moves more items a firing.
+fn heavier(graph: &Graph, channel: &Channel) -> usize
+    ensures { result ≡ large.heavier graph.now channel.now }
+{
+    match rates_of(graph, channel) {
+        Some((push, pop)) if pop > push => channel.target.node as usize,
+        _ => channel.source.node as usize,
     }
 }
 

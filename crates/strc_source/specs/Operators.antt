@@ -1,7 +1,8 @@
--- Which part of a statement that faults is marked: the operator that can fault so, where it has just
--- one; else its heading.
-use Rattle.std.specs.Prelude.{ℕ, zero, suc, ◌-◌, ◌+◌, Bool, true, false, ◌&&◌, nat_le, List, [], ◌∷◌}
-use Rattle.std.specs.Prelude.{drop, position, slice_get, is_some, if◌then◌else◌, Option, Some, None}
+-- Which part of a statement that faults is marked: the operator that can fault so, where it has
+-- just one; else its heading.
+use Rattle.std.specs.Prelude.{ℕ, zero, suc, ◌-◌, ◌+◌, Bool, true, false, ◌&&◌, nat_le, List, []}
+use Rattle.std.specs.Prelude.{◌∷◌, drop, position, slice_get, is_some, if◌then◌else◌}
+use Rattle.std.specs.Prelude.{Option, Some, None}
 use Rattle.std.specs.Option.{unwrap_or}
 use Rattle.strc_base.specs.declared.place.Span.{Span}
 use Rattle.strc_lex.specs.declared.token.Keyword.TheVariants as keyword

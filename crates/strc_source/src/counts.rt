@@ -1,7 +1,8 @@
 // The channel whose rates make a node fire too often in a round.
 
-ghost use Rattle.std.specs.Prelude.{◌<◌, IfOk, IfSome, length};
+ghost use Rattle.std.specs.Prelude.{◌≡◌, ◌<◌, IfOk, IfSome, length};
 ghost use Rattle.strc_graph.specs.NodeView.{graph_view};
+ghost use Rattle.strc_source.specs.Rates.{channel_rates};
 
 use std::alloc::Global;
 use strc_balance::COUNT_LIMIT;
@@ -96,7 +97,9 @@ fn given_by(graph: &Graph, shares: &[Option<Share>], channel: &Channel) -> Optio
 }
 
 /// What a channel's source pushes and what its target pops.
-pub fn rates_of(graph: &Graph, channel: &Channel) -> Option<(u128, u128)> {
+pub fn rates_of(graph: &Graph, channel: &Channel) -> Option<(u128, u128)>
+    ensures { result ≡ channel_rates graph.now channel.now }
+{
     let source = graph.nodes().get(channel.source.node as usize)?;
     let target = graph.nodes().get(channel.target.node as usize)?;
     Some((

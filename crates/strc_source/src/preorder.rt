@@ -1,7 +1,10 @@
 // The nodes of a program's stream in preorder, where they come from, and which of them channels
 // join. A program has them also where its flat graph is refused.
 
-ghost use Rattle.std.specs.Prelude.{◌≡◌, ◌<◌, IfOk, IfSome, length};
+ghost use Rattle.std.specs.Prelude.{◌≡◌, ◌⊎◌, ◌<◌, IfOk, All, length, position, replicate};
+ghost use Rattle.std.specs.Prelude.{not, true, false};
+ghost use Rattle.strc_source.specs.Joined.{AreJoined, AreKept, IsFollowed, IsNext, IsNextBy};
+ghost use Rattle.strc_source.specs.Joined.{joined_count};
 
 use crate::message::Message;
 use std::alloc::Global;
@@ -180,6 +183,7 @@ fn gives_items(splitter: &Splitter) -> bool {
 
 impl Preorder {
     ghost use Rattle.std.specs.Prelude.{◌≡◌, ◌<◌, IfOk, IfSome, length};
+    ghost use Rattle.strc_source.specs.Joined.{IsFirstApart};
 
     fn push(
         &mut self,
@@ -294,18 +298,17 @@ impl Preorder {
 
     /// The first node that no channels join with node 0.
     pub fn first_apart(&self, alloc: Global) -> Result<Option<usize>, NoMemory>
-        ensures { IfOk result (λ found. IfSome found (λ node. node < length self.now.nodes.items)) }
+        ensures apart { IfOk result (IsFirstApart self.now) }
+        ensures within { IfOk result (λ found. IfSome found (λ node.
+            node < length self.now.nodes.items)) }
     {
-        let mut joined: Vec<bool> = Vec::from_elem(alloc, false, self.nodes.len())?;
-        if let Some(first) = joined.get_mut(0) {
-            *first = true;
+        if self.nodes.is_empty() {
+            return Ok(None);
         }
-        for _turn in 0..self.nodes.len() {
-            if !spread(&mut joined, &self.links) {
-                break;
-            }
-        }
-        Ok(joined.iter().position(|joined| !*joined))
+        let mut joined = unmarked(alloc, self.nodes.len())?;
+        joined[0] = true;
+        while spread(&mut joined, &self.links) {}
+        Ok(first_left(&joined))
     }
 
     /// A node's name and number.
@@ -332,21 +335,57 @@ fn statement(added: Option<Span>) -> Origin {
     }
 }
 
+/// As many marks as nodes, none of them set.
+fn unmarked(alloc: Global, count: usize) -> Result<Vec<bool>, NoMemory>
+    ensures { IfOk result (λ marks. marks.items ≡ replicate count false) }
+{
+    Ok(Vec::from_elem(alloc, false, count)?)
+}
+
 /// Joins what a channel joins with a joined node. Whether there was one.
 fn spread(joined: &mut Vec<bool>, links: &[(usize, usize)]) -> bool
-    ensures { length joined.new.items ≡ length joined.old.items }
+    ensures length { length joined.new.items ≡ length joined.old.items }
+    ensures kept { AreKept joined.old.items joined.new.items }
+    ensures joined { AreJoined links.now joined.old.items
+        → AreJoined links.now joined.new.items }
+    ensures more { result ≡ true → joined_count joined.old.items < joined_count joined.new.items }
+    ensures all { result ≡ false → All (IsFollowed joined.new.items) links.now }
 {
     let mut changed = false;
     for (source, target) in links {
-        let from = joined.get(*source).copied().unwrap_or(false);
-        let to = joined.get(*target).copied().unwrap_or(false);
-        if from != to {
+        if join_ends(joined, *source, *target) {
             changed = true;
-            let other = if from { *target } else { *source };
-            if let Some(found) = joined.get_mut(other) {
-                *found = true;
-            }
         }
     }
     changed
+}
+
+/// Joins each end of a channel where the other is joined. Whether one wasn't before.
+fn join_ends(joined: &mut Vec<bool>, source: usize, target: usize) -> bool
+    ensures next { result ≡ true → IsNextBy joined.old.items joined.new.items source target
+        ⊎ IsNextBy joined.old.items joined.new.items target source }
+    ensures kept { result ≡ false → joined.new.items ≡ joined.old.items }
+    ensures followed { result ≡ false → IsFollowed joined.old.items (source, target) }
+{
+    join_next(joined, source, target) || join_next(joined, target, source)
+}
+
+/// Joins a node that a channel joins with a joined one. Whether it wasn't before.
+fn join_next(joined: &mut Vec<bool>, near: usize, far: usize) -> bool
+    ensures next { result ≡ true → IsNextBy joined.old.items joined.new.items near far }
+    ensures kept { result ≡ false → joined.new.items ≡ joined.old.items }
+    ensures followed { result ≡ false → IsNext joined.old.items near far → ⊥ }
+{
+    if near < joined.len() && far < joined.len() && joined[near] && !joined[far] {
+        joined[far] = true;
+        return true;
+    }
+    false
+}
+
+/// The first that isn't joined.
+fn first_left(joined: &[bool]) -> Option<usize>
+    ensures { result ≡ position (λ is_joined. not is_joined) joined.now }
+{
+    joined.iter().position(|is_joined| !*is_joined)
 }

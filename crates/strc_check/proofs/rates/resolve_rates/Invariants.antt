@@ -1,11 +1,18 @@
 use Rattle.std.proofs.Common.{◌≡◌, drop, map}
 use Rattle.strc_syntax.specs.View.{rate_view}
 use Rattle.strc_check.specs.Resolution.{rates_resolved}
+use Rattle.strc_check.specs.RefusedPlaces.{rates_place}
 use Rattle.strc_check.proofs.Resolved.{list_after}
 use Rattle.strc_check.proofs.rates.resolve_rates.Given as goal
 
 abbrev pub invariant-loop-rate : goal.invariant-loop-rate
-invariant-loop-rate l = list_after rate_view l.resolved.items
-    (rates_resolved l.constants l.fields l.input l.output
-    (map rate_view (drop l.rate-index l.rates)))
-    ≡ rates_resolved l.constants l.fields l.input l.output (map rate_view l.rates)
+invariant-loop-rate l = record {
+  left : list_after rate_view l.resolved.items
+      (rates_resolved l.constants l.fields l.input l.output
+      (map rate_view (drop l.rate-index l.rates)))
+      ≡ rates_resolved l.constants l.fields l.input l.output (map rate_view l.rates);
+  here : l.here ≡ l.initial.here;
+  place : rates_place l.constants l.fields l.input l.output l.initial.here
+      (drop l.rate-index l.rates)
+      ≡ rates_place l.constants l.fields l.input l.output l.initial.here l.rates;
+}

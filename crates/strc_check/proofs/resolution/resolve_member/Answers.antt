@@ -9,6 +9,10 @@ use Rattle.strc_syntax.proofs.Blocks.{member_view-Init, member_view-Prework, mem
 use Rattle.strc_check.proofs.Members.{init_judged, prework_judged, main_work_judged, work_judged}
 use Rattle.strc_check.proofs.Members.{helper_judged}
 use Rattle.strc_check.proofs.Resolved.{refusal_through, refusal_same}
+use Rattle.strc_check.specs.RefusedPlaces.{Stands}
+use Rattle.strc_check.proofs.RefusedPlaces.{place_same}
+use Rattle.strc_check.proofs.PlacesOfMembers.{init_place, prework_place, main_work_place}
+use Rattle.strc_check.proofs.PlacesOfMembers.{helper_member_place}
 use Rattle.strc_check.proofs.resolution.resolve_member.Goals as goal
 
 pub returns-in_ok-block-in-Init-clause-verdict : goal.returns-in_ok-block-in-Init-clause-verdict
@@ -23,8 +27,8 @@ returns-in_ok-block-in-Init-clause-verdict c =
 
 pub returns-in_err-block-in-Init-clause-verdict : goal.returns-in_err-block-in-Init-clause-verdict
 returns-in_err-block-in-Init-clause-verdict c =
-    let p = err_from_is_err_and c.from_residual.result
-    c.from_residual.ensures.1 in
+    let p = err_from_is_err_and c.from_residual-in_err-block-in-Init.result
+    c.from_residual-in_err-block-in-Init.ensures.1 in
     let refused = refusal_same _ _ c.in_err-block-in-Init.field-0.0
     (init_judged c.args.constants.now c.args.helpers.now c.args.input c.args.output
     c.args.fields.now c.args.before.now c.args.known.now
@@ -97,19 +101,67 @@ returns-in_err-work-in-Work-clause-verdict c =
     c.in_err-work-in-Work.ensures.verdict) in
     rw (p.1, p.2) refused
 
-pub returns-in-Fields-clause-verdict : goal.returns-in-Fields-clause-verdict
-returns-in-Fields-clause-verdict c =
-    rw c.placed.ensures
-    (rw c.in-Fields.is (c.resolve_declared_fields.ensures.verdict c.args.input c.args.output
-    c.args.known.now))
-
 pub returns-in-Helper-clause-verdict : goal.returns-in-Helper-clause-verdict
 returns-in-Helper-clause-verdict c =
-    rw c.placed-in-Helper.ensures
-    (subst (λ r. IsVerdict member_view r c.resolve_helper.result)
+    subst (λ r. IsVerdict member_view r c.resolve_helper.result)
     (helper_judged c.args.constants.now c.args.helpers.now c.args.input c.args.output
     c.args.fields.now c.args.before.now c.args.known.now c.args.member.now c.in-Helper.kind
     c.in-Helper.name c.in-Helper.parameters c.in-Helper.block c.deref-in-Helper.result.now
     c.deref-in-Helper-2.result.now c.deref-in-Helper.ensures.value
     c.deref-in-Helper-2.ensures.value c.in-Helper.is)
-    c.resolve_helper.ensures.verdict)
+    c.resolve_helper.ensures.verdict
+
+pub returns-in_err-block-in-Init-clause-here : goal.returns-in_err-block-in-Init-clause-here
+returns-in_err-block-in-Init-clause-here c =
+    let p = err_from_is_err_and c.from_residual-in_err-block-in-Init.result
+    c.from_residual-in_err-block-in-Init.ensures.1 in
+    rw (p.1, p.2) (place_same c.in_err-block-in-Init.field-0.0 _ _ _
+    (init_place c.args.constants.now c.args.helpers.now c.args.input c.args.output
+    c.args.fields.now c.args.known.now c.args.here.now (context_of c.start_context-context.result)
+    c.args.member.now c.in-Init.block c.deref.result.now c.start_context-context.ensures
+    c.deref.ensures.value c.in-Init.is) c.in_err-block-in-Init.ensures.here)
+
+pub returns-in_err-work-in-Prework-clause-here : goal.returns-in_err-work-in-Prework-clause-here
+returns-in_err-work-in-Prework-clause-here c =
+    let p = err_from_is_err_and c.from_residual-in_err-work-in-Prework.result
+    c.from_residual-in_err-work-in-Prework.ensures.1 in
+    rw (p.1, p.2) (place_same c.in_err-work-in-Prework.field-0.0 _ _ _
+    (prework_place c.args.constants.now c.args.helpers.now c.args.input c.args.output
+    c.args.fields.now c.args.known.now c.args.here.now c.args.member.now c.in-Prework.rates
+    c.in-Prework.block c.deref-in-Prework.result.now c.deref-in-Prework-2.result.now
+    c.deref-in-Prework.ensures.value c.deref-in-Prework-2.ensures.value c.in-Prework.is)
+    c.in_err-work-in-Prework.ensures.here)
+
+pub returns-in_err-work-in-Work-clause-here : goal.returns-in_err-work-in-Work-clause-here
+returns-in_err-work-in-Work-clause-here c =
+    let p = err_from_is_err_and c.from_residual-in_err-work-in-Work.result
+    c.from_residual-in_err-work-in-Work.ensures.1 in
+    rw (p.1, p.2) (place_same c.in_err-work-in-Work.field-0.0 _ _ _
+    (main_work_place c.args.constants.now c.args.helpers.now c.args.input c.args.output
+    c.args.fields.now c.args.known.now c.args.here.now c.args.member.now c.in-Work.rates
+    c.in-Work.block c.deref-in-Work.result.now c.deref-in-Work-2.result.now
+    c.deref-in-Work.ensures.value c.deref-in-Work-2.ensures.value c.in-Work.is)
+    c.in_err-work-in-Work.ensures.here)
+
+pub returns-in-Helper-clause-here : goal.returns-in-Helper-clause-here
+returns-in-Helper-clause-here c =
+    subst (λ p. Stands c.resolve_helper.result p c.args.here.now c.resolve_helper.new.here)
+    (helper_member_place c.args.constants.now c.args.helpers.now c.args.input c.args.output
+    c.args.fields.now c.args.known.now c.args.here.now c.args.member.now c.in-Helper.kind
+    c.in-Helper.name c.in-Helper.parameters c.in-Helper.block c.deref-in-Helper.result.now
+    c.deref-in-Helper-2.result.now c.deref-in-Helper.ensures.value
+    c.deref-in-Helper-2.ensures.value c.in-Helper.is)
+    c.resolve_helper.ensures.here
+
+pub returns-in_ok-member-in-Fields-clause-verdict :
+    goal.returns-in_ok-member-in-Fields-clause-verdict
+returns-in_ok-member-in-Fields-clause-verdict c =
+    rw c.in-Fields.is (c.in_ok-member-in-Fields.ensures.verdict c.args.input c.args.output
+    c.args.known.now)
+
+pub returns-in_err-member-in-Fields-clause-verdict :
+    goal.returns-in_err-member-in-Fields-clause-verdict
+returns-in_err-member-in-Fields-clause-verdict c =
+    let p = err_from_is_err_and c.from_residual.result c.from_residual.ensures.1 in
+    rw (p.1, p.2) (rw c.in-Fields.is (c.in_err-member-in-Fields.ensures.verdict c.args.input
+    c.args.output c.args.known.now))

@@ -2,6 +2,7 @@ use Rattle.std.proofs.Common.{◌≡◌, drop}
 use Rattle.strc_syntax.specs.View.{member_view}
 use Rattle.strc_semantics.specs.Filters.{members_of}
 use Rattle.strc_check.specs.Resolution.{members_resolved}
+use Rattle.strc_check.specs.RefusedPlaces.{members_place}
 use Rattle.strc_check.proofs.Resolved.{list_after}
 use Rattle.strc_check.proofs.resolution.resolve_members.Given as goal
 
@@ -13,4 +14,9 @@ invariant-loop-member l = record {
       ≡ members_resolved l.constants l.helpers l.input l.output l.initial.fields
       l.initial.before l.initial.known (members_of l.members);
   fields : l.fields ≡ l.initial.fields;
+  here : l.here ≡ l.initial.here;
+  place : members_place l.constants l.helpers l.input l.output l.fields l.before l.known
+      l.initial.here (drop l.member-index l.members)
+      ≡ members_place l.constants l.helpers l.input l.output l.initial.fields l.initial.before
+      l.initial.known l.initial.here l.members;
 }

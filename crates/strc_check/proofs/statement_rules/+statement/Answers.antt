@@ -1,4 +1,5 @@
-use Rattle.std.proofs.Common.{◌<◌, ◌+◌, Ok, length, drop, sym, ap, ◌∙◌, arith}
+use Rattle.std.proofs.Common.{◌<◌, ◌+◌, Ok, length, drop, sym, ap, ◌∙◌, subst}
+use Rattle.std.proofs.Common.{arith}
 use Rattle.std.proofs.Math.ListN.{drop_of_length-le}
 use Rattle.std.proofs.lemmas.Result.{err_from_is_err_and}
 use Rattle.strc_base.specs.Results.{result_and_then}
@@ -10,6 +11,9 @@ use Rattle.strc_syntax.proofs.Blocks.{stmt_view-Block, block_view-drop}
 use Rattle.strc_check.proofs.TypedGrowth.{stands_on_after}
 use Rattle.strc_check.proofs.Resolved.{block_after, block_after_step, block_refused}
 use Rattle.strc_check.proofs.Resolved.{block_onto-Done, next_refused, refusal_same, refusal_through}
+use Rattle.strc_check.specs.RefusedPlaces.{IsPlaceOf, stmt_place, block_place}
+use Rattle.strc_check.proofs.RefusedPlaces.{next_place, place_same, block_place_step}
+use Rattle.strc_check.proofs.RefusedPlaces.{block_place_refused, stmt_place-Block}
 use Rattle.strc_check.proofs.statement_rules.+statement.Goals as goal
 
 pub resolve_block-loop-inner-preserved : goal.resolve_block-loop-inner-preserved
@@ -37,6 +41,11 @@ resolve_block-loop-inner-preserved t c =
           ∙ c.loop-inner.invariant.left;
       names = rw names (stands_on_after c.args.names.now c.loop-inner.names
           (stmt_view x) c.loop-inner.invariant.names);
+      here = (rw told at c.resolve_stmt-next.ensures.here) ∙ c.loop-inner.invariant.here;
+      place = block_place_step context c.loop-inner.names c.resolve_stmt-next.new.names start
+          c.args.here.now items i x y lt c.inner-item.is
+          (rw told at c.resolve_stmt-next.ensures.verdict) names
+          ∙ c.loop-inner.invariant.place;
     }
 
 pub resolve_block-returns-in_err-push_next-clause-verdict :
@@ -101,3 +110,46 @@ resolve_stmt-returns-in_err-body-in-Block-clause-verdict t c =
     let inside = refusal_through (body_resolved context names (block_view c.deref.result.now))
     (λ b. Ok (tree.Block b)) e c.in_err-body-in-Block.ensures.verdict in
     rw (p.1, p.2) (refusal_same _ _ e whole inside)
+
+pub resolve_block-returns-in_err-push_next-clause-here :
+    goal.resolve_block-returns-in_err-push_next-clause-here
+resolve_block-returns-in_err-push_next-clause-here t c =
+    let items = c.args.block.now in
+    let i = c.loop-inner.inner-index in
+    let lt : i < length items = omega arith in
+    let x = c.inner-item.result in
+    let e = c.in_err-push_next.field-0.0 in
+    let context = context_of c.args.context.now in
+    let start = c.len-start.result in
+    let names = c.loop-inner.names in
+    let after = c.resolve_stmt-next.new.here in
+    let refusal = next_refused stmt_view (stmt_resolved context names start (stmt_view x))
+    c.resolve_stmt-next.result e c.resolve_stmt-next.ensures.verdict
+    c.in_err-push_next.ensures.err in
+    let stands = next_place c.resolve_stmt-next.result e
+    (stmt_place context names start c.loop-inner.here x) c.loop-inner.here after
+    c.resolve_stmt-next.ensures.here c.in_err-push_next.ensures.err in
+    let at = subst (λ h. IsPlaceOf e (stmt_place context names start h x) after)
+    c.loop-inner.invariant.here stands in
+    let p = err_from_is_err_and c.from_residual.result c.from_residual.ensures.1 in
+    let left = block_place_refused context names start c.args.here.now items i x e after lt
+    c.inner-item.is refusal at in
+    let whole = c.loop-inner.invariant.place
+    ∙ ap (λ n. block_place context c.args.names.now n c.args.here.now items) c.len-start.ensures in
+    rw (p.1, p.2) (place_same e _ _ after whole left)
+
+pub resolve_block-returns-clause-here : goal.resolve_block-returns-clause-here
+resolve_block-returns-clause-here t c = c.loop-inner.invariant.here
+
+pub resolve_stmt-returns-in_err-body-in-Block-clause-here :
+    goal.resolve_stmt-returns-in_err-body-in-Block-clause-here
+resolve_stmt-returns-in_err-body-in-Block-clause-here t c =
+    let context = context_of c.args.context.now in
+    let names = c.args.names.now in
+    let here = c.args.here.now in
+    let e = c.in_err-body-in-Block.field-0.0 in
+    let p = err_from_is_err_and c.from_residual.result c.from_residual.ensures.1 in
+    let whole = ap (block_place context names (length names) here) c.deref.ensures.value
+    ∙ sym (stmt_place-Block context names c.args.start here c.in-Block.body)
+    ∙ ap (stmt_place context names c.args.start here) (sym c.in-Block.is) in
+    rw (p.1, p.2) (place_same e _ _ _ whole c.in_err-body-in-Block.ensures.here)

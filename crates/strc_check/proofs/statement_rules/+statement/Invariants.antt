@@ -3,6 +3,7 @@ use Rattle.strc_syntax.proofs.tree.Stmt.TheLaws.{the_size}
 use Rattle.strc_syntax.specs.View.{block_view}
 use Rattle.strc_check.specs.Resolution.{stmts_resolved}
 use Rattle.strc_check.specs.Verdicts.{context_of}
+use Rattle.strc_check.specs.RefusedPlaces.{block_place}
 use Rattle.strc_check.proofs.TypedGrowth.{StandsOn}
 use Rattle.strc_check.proofs.Resolved.{block_after}
 use Rattle.strc_check.proofs.statement_rules.+statement.Given as goal
@@ -35,4 +36,8 @@ invariant-resolve_block-loop-inner l = record {
       (block_view (drop l.inner-index l.block)))
       ≡ stmts_resolved (context_of l.context) l.initial.names l.start (block_view l.block);
   names : StandsOn l.initial.names l.names;
+  here : l.here ≡ l.initial.here;
+  place : block_place (context_of l.context) l.names l.start l.initial.here
+      (drop l.inner-index l.block)
+      ≡ block_place (context_of l.context) l.initial.names l.start l.initial.here l.block;
 }

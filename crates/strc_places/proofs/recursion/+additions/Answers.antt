@@ -8,8 +8,8 @@ use Rattle.strc_places.proofs.recursion.+additions.Goals as goal
 pub add_statement-returns-in-Block : goal.add_statement-returns-in-Block
 add_statement-returns-in-Block t c =
     let here = c.args.here in
-    let same =
-    ap additions_in_block c.deref-in-Block.ensures.value ∙ sym (additions_in-Block here c.in-Block.block)
+    let same = ap additions_in_block c.deref-in-Block.ensures.value
+    ∙ sym (additions_in-Block here c.in-Block.block)
     ∙ ap (additions_in here) (sym c.in-Block.is) in
     on_ok_weaker c.add_block.result
     (λ h. h ∙ ap (λ l. map addition_view c.args.additions.now.items ++ l) same)

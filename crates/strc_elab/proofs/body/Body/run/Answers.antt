@@ -1,5 +1,4 @@
 use Rattle.std.proofs.Common.{[], ap, ◌∙◌, subst}
-use Rattle.std.proofs.lemmas.Result.{err_from_is_err_and}
 use Rattle.strc_syntax.specs.View.{block_view}
 use Rattle.strc_elab.specs.Elaboration.{stmts_run}
 use Rattle.strc_statements.specs.Answers.{IsRefusal}
@@ -7,14 +6,12 @@ use Rattle.strc_elab.specs.Answering.{progress_of}
 use Rattle.strc_elab.specs.Tasks.{setting_of}
 use Rattle.strc_elab.proofs.body.Body.run.Goals as goal
 
-pub returns-in_err-statements : goal.returns-in_err-statements
-returns-in_err-statements g c =
-    let p = err_from_is_err_and c.from_residual.result c.from_residual.ensures.1 in
+pub returns-in-Err-clause-verdict : goal.returns-in-Err-clause-verdict
+returns-in-Err-clause-verdict g c =
     let setting = setting_of c.args.self.now.task in
     let block = block_view c.args.block.now in
     let initial = c.initial_progress-progress.result in
     let same = ap (λ names. stmts_run setting names 0 block (progress_of initial))
     c.initial_progress-progress.ensures.names
     ∙ ap (stmts_run setting [] 0 block) c.initial_progress-progress.ensures.progress in
-    rw (p.1, p.2) (subst (λ outcome. IsRefusal outcome c.in_err-statements.field-0.0) same
-    c.in_err-statements.ensures.runs)
+    subst (λ outcome. IsRefusal outcome c.in-Err.error) same c.in-Err.ensures.runs

@@ -3,7 +3,7 @@ use Rattle.strc_syntax.specs.View.{program_view}
 use Rattle.strc_elab.specs.Elaboration.{elaborated}
 use Rattle.strc_stream.specs.View.{stream_view}
 use Rattle.strc_elab.proofs.Soundness.{elaborated_is_sound}
-use Rattle.strc_elab.proofs.elaborate.elaborate.Goals as goal
+use Rattle.strc_elab.proofs.elaborate.elaborate_placed.Goals as goal
 
 pub returns-clause-sound : goal.returns-clause-sound
 returns-clause-sound c =
