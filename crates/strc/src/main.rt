@@ -1,7 +1,10 @@
 // The program `strc`: the words of the command line, a file's text, and the two standard streams,
-// handed to the library that does the work.
+// handed to the library that does the work; and how long the stages of a plan took.
 #![tactic(auto)]
 
+mod times;
+
+use crate::times::times_message;
 use std::fs::File;
 use std::io::{ErrorKind, Write};
 use std::process::ExitCode;
@@ -10,11 +13,10 @@ use std::thread::{Builder, Threads};
 use std::{env, thread};
 use strc_cli::device::Told;
 use strc_cli::execute::{CliError, Status};
+use strc_cli::explained::{Explained, execute_explained};
 use strc_cli::line::{Command, Line, LineFault};
-use strc_cli::program_text::{TextFault, read_text};
 use strc_cli::words::{VERSION, asks_for_help, asks_for_version, command, usage_error};
-use strc_messages::explained::{Explained, execute_explained};
-use strc_messages::times::times_message;
+use strc_lex::program_text::{TextFault, read_text};
 use strc_ring::{Gate, OpenGate, StageTimes};
 use strc_stages::Stage;
 

@@ -8,7 +8,7 @@ use std::thread::Threads;
 use strc_cli::device::{Sink, Source, Told};
 use strc_cli::execute::{CliError, Status, execute};
 use strc_cli::line::Command;
-use strc_cli::program_text::{TextFault, read_text};
+use strc_lex::program_text::{TextFault, read_text};
 use strc_ring::OpenGate;
 
 // A source and a printer in a pipeline.

@@ -10,7 +10,7 @@
 // Gives a line for each case that differs, and at the end how many do; and the same of the places
 // at which cases were broken, and of devices that fail or take little at a time.
 // There is no theorem here; the values are those of the language's rules.
-// Stands on strc_cli, whose `command` it calls, and on strc_messages, whose `execute_explained`.
+// Stands on strc_cli, whose `command` and `execute_explained` it calls.
 #![tactic(auto)]
 
 mod broken;
@@ -24,9 +24,9 @@ use std::sync::Wait;
 use std::thread::{Builder, Threads};
 use std::{fs, io, thread};
 use strc_cli::device::Told;
+use strc_cli::explained::execute_explained;
 use strc_cli::line::{Command, LineFault};
 use strc_cli::words::command;
-use strc_messages::explained::execute_explained;
 use strc_ring::{OpenGate, StageTimes};
 
 // The status of a command line that isn't understood, as of the program's.

@@ -65,8 +65,8 @@ first_heading tokens (Some at) second = refl
 
 -- a statement, or else the node
 pub marks_statement : (text : List ℕ) (tokens : List Token) (found : Option Span)
-    (name : Option (List ℕ)) (statement node : Option Span)
-    → MarksNode text tokens name statement node
-    → MarksStatement text tokens found name statement (option_or (heading_of tokens found) node)
-marks_statement text tokens None name statement node marks = marks
-marks_statement text tokens (Some at) name statement node marks = refl
+    (name : Option (List ℕ)) (statement place : Option Span)
+    → MarksNode text tokens name statement place
+    → MarksStatement text tokens found name statement (option_or (heading_of tokens found) place)
+marks_statement text tokens None name statement place marks = marks
+marks_statement text tokens (Some at) name statement place marks = refl

@@ -1,7 +1,7 @@
 pub mod Additions
 pub mod Keywords
 pub mod Large
-pub mod Nesting
+pub mod Marked
 pub mod Nodes
 pub mod OccurrencePlaces
 pub mod Occurrences

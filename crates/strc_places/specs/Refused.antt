@@ -24,10 +24,6 @@ use Rattle.strc_rate.specs.Rates.{within_limit, has_items}
 use Rattle.strc_graph.specs.declared.graph.Node.{Node}
 use Rattle.strc_graph.specs.declared.graph.Node.TheVariants as node
 use Rattle.strc_graph.specs.NodeView.{GraphParts}
-use Rattle.strc_check.specs.declared.site.Mismatch.{Mismatch}
-use Rattle.strc_check.specs.declared.site.Mismatch.TheVariants as mismatch
-use Rattle.strc_refusal.specs.declared.refusal.Refusal.{Refusal}
-use Rattle.strc_refusal.specs.declared.refusal.Refusal.TheVariants as refusal
 use Rattle.strc_semantics.specs.declared.fault.Cause.{Cause}
 use Rattle.strc_source.specs.Headings.{heading}
 use Rattle.strc_places.specs.declared.moved.Moved.{Moved}
@@ -125,24 +121,6 @@ abbrev pub MarksRateOf : List ℕ → List Token → Option GraphParts → ℕ
     → (Filter → RateKind → Body → Bool) → Option Span → Type 0
 MarksRateOf text tokens graph number breaks place = IfSome (filter_at graph number)
     (λ filter. MarksRate text tokens filter (breaks filter) place)
-
--- a refusal of a type, a kind or a part, of arguments or of weights
-abbrev pub is_of_statement : Refusal → Bool
-is_of_statement (refusal.TypeMismatch stream) = true
-is_of_statement (refusal.BadArguments stream) = true
-is_of_statement (refusal.BadWeights stream) = true
-is_of_statement _ = false
-
--- too many nodes, or too many levels
-abbrev pub is_limit : Refusal → Bool
-is_limit refusal.NodeLimit = true
-is_limit refusal.DepthLimit = true
-is_limit _ = false
-
--- a stream lacks a part
-abbrev pub lacks_part : Option Mismatch → Bool
-lacks_part (Some (mismatch.Missing kind part)) = true
-lacks_part _ = false
 
 -- the part of a statement that faults is marked, or without one a name
 abbrev pub MarksPart : List ℕ → List Token → Cause → Option (List ℕ) → (statement : Option Span)

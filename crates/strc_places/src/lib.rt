@@ -3,21 +3,20 @@
 // The theorems to rely on: `occurrences`, `occurrences_in_firing` and `occurrences_at_start` find,
 // of each part of a filter's text that can fault so, in order, the innermost statement around it,
 // the latter two also in its helper functions; `single` gives a place only where all begin there;
-// `place_of_refusal` marks an undeclared name, the name of a main stream that is asked for, of a
-// node at a channel, a feedback loop whose nodes wait, a rate that breaks a rule and a stream that
-// lacks a part where the text spells them, unless no token does; of a statement that is refused its
-// heading, and of one that faults the one operator that can (`faulting_part`). Which statement that
-// is says `uncounted_statement` of one that can't be counted, `peek_outside` of one that looks too
-// far, `recursive_statement` of one that adds its own stream, `faulting_statement` and
-// `faulting_start` of the only one that can fault so, and `statement_of` of a node's; of other
-// refusals it is the site's. That the token marked of a text that is nested too deep is the one
-// where it gets so is tested: what specs/Nesting says holds of nearly any late one. `pair_of` gives
-// the first two nodes that take the input, that write to one file, or that no channels join.
+// `place_of_refusal` marks what `MarksRefusal` says of each kind: an undeclared name, the name of a
+// main stream that is asked for, of a node at a channel, a feedback loop whose nodes wait, a rate
+// that breaks a rule and a stream that lacks a part where the text spells them, unless no token
+// does; of a statement that is refused its heading, and of one that faults the one operator that
+// can (`faulting_part`). Which statement that is says `uncounted_statement` of one that can't be
+// counted, `peek_outside` of one that looks too far, `recursive_statement` of one that adds its own
+// stream, `faulting_statement` and `faulting_start` of the only one that can fault so, and
+// `statement_of` of a node's; of other refusals it is the site's. That the token marked of a text
+// that is nested too deep is the one where it gets so is tested. `pair_of` gives the first two
+// nodes that take the input, that write to one file, or that no channels join.
 // Stands on strc_source, which knows the text's tokens and the stream's nodes, on strc_refusal,
 // whose refusals these are, on strc_statements, which says what can be the main stream, on
 // strc_stream, strc_graph and strc_code, whose filters know their text, on strc_rate and
-// strc_interval, which count and compute it, on strc_parse, which reads the text's own tree, and on
-// strc_grammar, which says what is nested too deep.
+// strc_interval, which count and compute it, and on strc_parse, which reads the text's own tree.
 #![tactic(auto)]
 
 pub mod bodies;

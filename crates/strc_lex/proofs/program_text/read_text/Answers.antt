@@ -2,7 +2,7 @@ use Rattle.std.proofs.Common.{◌≡◌, ◌∙◌, ℕ, ◌+◌, List, [], ◌+
 use Rattle.std.proofs.Common.{ap, subst}
 use Rattle.std.specs.Prelude.{option_map}
 use Rattle.strc_lex.specs.Text.{text_limit}
-use Rattle.strc_cli.proofs.program_text.read_text.Goals as goal
+use Rattle.strc_lex.proofs.program_text.read_text.Goals as goal
 
 -- what is read up to a limit, where the text was empty before
 read_up_to : (bytes : Option (List ℕ)) (limit : ℕ) (before after : List ℕ) → before ≡ []

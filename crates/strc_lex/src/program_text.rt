@@ -4,10 +4,10 @@ ghost use Rattle.std.specs.Prelude.{◌≡◌, ◌≢◌, ◌+◌, IfOk, IfSome,
 ghost use Rattle.std.specs.IoError.{error_kind};
 ghost use Rattle.strc_lex.specs.Text.{text_limit};
 
+use crate::lexer::TEXT_LIMIT;
 use std::alloc::Global;
 use std::io;
 use std::io::{ErrorKind, Read};
-use strc_lex::lexer::TEXT_LIMIT;
 use thiserror::Error;
 
 // A text of more bytes than a program may have is read no further.

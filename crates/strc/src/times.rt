@@ -10,7 +10,7 @@ use strc_stage::bounds::stage_bounds;
 /// A line for each stage of a plan that so many workers ran, with its nodes after fission, its
 /// steps and their time; or one line where the calling thread did all. No bytes where memory runs
 /// out.
-pub fn times_message<C: Clock>(
+pub(crate) fn times_message<C: Clock>(
     alloc: Global,
     plan: &Plan,
     workers: u32,
