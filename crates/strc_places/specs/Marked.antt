@@ -14,7 +14,7 @@ use Rattle.strc_refusal.specs.declared.refusal.Refusal.{Refusal}
 use Rattle.strc_refusal.specs.declared.refusal.Refusal.TheVariants as refusal
 use Rattle.strc_source.specs.declared.preorder.Preorder.{Preorder}
 use Rattle.strc_source.specs.Headings.{heading}
-use Rattle.strc_source.specs.Spelling.{Marks, MarksFrom}
+use Rattle.strc_source.specs.Spelling.{Marks, MarksFrom, Spells}
 use Rattle.strc_places.specs.Keywords.{kind_keyword}
 use Rattle.strc_places.specs.Large.{MarksLarge}
 use Rattle.strc_places.specs.Nodes.{MarksChannel, MarksStatement, declared_name, heading_of}
@@ -67,8 +67,10 @@ module _ (text : List ℕ) (tokens : List Token) (asked : Option (List ℕ)) (pr
 
   -- by the refusal's kind
   abbrev pub MarksRefusal : Refusal → Option Span → Type 0
-  -- a name that isn't declared, where it is written
+  -- a name that isn't declared, where it is written: at the site, if that spells it
   MarksRefusal (refusal.UnknownName name) place = Marks text tokens name place
+      × IfSome (heading_of tokens site.place) (λ at. Spells text at name
+      → place ≡ heading_of tokens site.place)
   -- the statement that breaks a rule on types, kinds, parts, arguments or weights
   MarksRefusal (refusal.TypeMismatch stream) place = MarksStream stream site.place place
   MarksRefusal (refusal.BadArguments stream) place = MarksStream stream site.place place
