@@ -5,6 +5,10 @@ ghost use Rattle.std.specs.Box.{box_value};
 ghost use Rattle.std.specs.Option.{option_map};
 ghost use Rattle.strc_syntax.specs.View.{expr_view, stmt_view, rate_view, member_view, child_view};
 ghost use Rattle.strc_syntax.specs.View.{IsPlacedAt};
+ghost use Rattle.strc_syntax.specs.Made.{IsIfOf, IsIfElseOf, IsWhileOf, IsForOf};
+ghost use Rattle.strc_syntax.specs.declared.tree.Stmt.TheVariants as stmt;
+ghost use Rattle.strc_syntax.specs.declared.tree.Member.TheVariants as member;
+ghost use Rattle.strc_syntax.specs.declared.tree.Child.TheVariants as child;
 ghost use Rattle.strc_syntax.specs.Tree.{row, chain, arguments_of};
 ghost use Rattle.strc_syntax.specs.Tree as tree;
 
@@ -97,13 +101,16 @@ pub fn conditional_of(
 
 #[tactic(auto, using(crate::proofs::Views::stmt_view_block))]
 pub fn block_of(body: Vec<Stmt>) -> Stmt
-    ensures { stmt_view result ≡ tree.Block (row (map stmt_view body.items)) }
+    ensures view { stmt_view result ≡ tree.Block (row (map stmt_view body.items)) }
+    ensures made { result ≡ stmt.Block body }
 {
     Stmt::Block(body)
 }
 
 pub fn if_of(alloc: Global, condition: Expr, chosen: Stmt) -> Result<Stmt, AllocError>
-    ensures { IfOk result (λ s. stmt_view s ≡ tree.If (expr_view condition) (stmt_view chosen)) }
+    ensures view { IfOk result (λ s.
+        stmt_view s ≡ tree.If (expr_view condition) (stmt_view chosen)) }
+    ensures made { IfOk result (IsIfOf condition chosen) }
 {
     let (condition, chosen) = boxed_after(alloc, condition, chosen)?;
     Ok(Stmt::If(condition, chosen))
@@ -143,15 +150,18 @@ pub fn if_else_of(
     chosen: Stmt,
     other: Stmt,
 ) -> Result<Stmt, AllocError>
-    ensures { IfOk result (λ s. stmt_view s ≡ tree.IfElse (expr_view condition) (stmt_view chosen)
-        (stmt_view other)) }
+    ensures view { IfOk result (λ s. stmt_view s ≡ tree.IfElse (expr_view condition)
+        (stmt_view chosen) (stmt_view other)) }
+    ensures made { IfOk result (IsIfElseOf condition chosen other) }
 {
     let (condition, chosen, other) = boxed(alloc, condition, chosen, other)?;
     Ok(Stmt::IfElse(condition, chosen, other))
 }
 
 pub fn while_of(alloc: Global, condition: Expr, body: Stmt) -> Result<Stmt, AllocError>
-    ensures { IfOk result (λ s. stmt_view s ≡ tree.While (expr_view condition) (stmt_view body)) }
+    ensures view { IfOk result (λ s.
+        stmt_view s ≡ tree.While (expr_view condition) (stmt_view body)) }
+    ensures made { IfOk result (IsWhileOf condition body) }
 {
     let (condition, body) = boxed_after(alloc, condition, body)?;
     Ok(Stmt::While(condition, body))
@@ -164,9 +174,10 @@ pub fn for_of(
     step: Stmt,
     body: Stmt,
 ) -> Result<Stmt, AllocError>
-    ensures { IfOk result (λ s. stmt_view s ≡
+    ensures view { IfOk result (λ s. stmt_view s ≡
         tree.For (stmt_view first) (option_map expr_view condition) (stmt_view step)
         (stmt_view body)) }
+    ensures made { IfOk result (IsForOf first condition step body) }
 {
     Ok(Stmt::For(
         Box::new(alloc, first)?,
@@ -186,46 +197,52 @@ pub fn placed_of(alloc: Global, place: Span, statement: Stmt) -> Result<Stmt, Al
 
 #[tactic(auto, using(crate::proofs::Views::member_view_init))]
 pub fn init_of(block: Vec<Stmt>) -> Member
-    ensures { member_view result ≡ tree.Init (row (map stmt_view block.items)) }
+    ensures view { member_view result ≡ tree.Init (row (map stmt_view block.items)) }
+    ensures made { result ≡ member.Init block }
 {
     Member::Init(block)
 }
 
 #[tactic(auto, using(crate::proofs::Views::member_view_prework))]
 pub fn prework_of(rates: Vec<RateTree>, block: Vec<Stmt>) -> Member
-    ensures { member_view result ≡ tree.Prework (map rate_view rates.items)
+    ensures view { member_view result ≡ tree.Prework (map rate_view rates.items)
         (row (map stmt_view block.items)) }
+    ensures made { result ≡ member.Prework rates block }
 {
     Member::Prework(rates, block)
 }
 
 #[tactic(auto, using(crate::proofs::Views::member_view_work))]
 pub fn work_of(rates: Vec<RateTree>, block: Vec<Stmt>) -> Member
-    ensures { member_view result ≡ tree.Work (map rate_view rates.items)
+    ensures view { member_view result ≡ tree.Work (map rate_view rates.items)
         (row (map stmt_view block.items)) }
+    ensures made { result ≡ member.Work rates block }
 {
     Member::Work(rates, block)
 }
 
 pub fn helper_of(kind: HelperType, name: Name, parameters: Vec<Name>, block: Vec<Stmt>) -> Member
-    ensures { member_view result ≡ tree.Helper kind name parameters.items
+    ensures view { member_view result ≡ tree.Helper kind name parameters.items
         (row (map stmt_view block.items)) }
+    ensures made { result ≡ member.Helper kind name parameters block }
 {
     Member::Helper(kind, name, parameters, block)
 }
 
 /// A filter without a name.
 pub fn filter_of(types: StreamType, members: Vec<Member>) -> Child
-    ensures { child_view result ≡ tree.AnonymousFilter types
+    ensures view { child_view result ≡ tree.AnonymousFilter types
         (chain (map member_view members.items)) }
+    ensures made { result ≡ child.Filter types members }
 {
     Child::Filter(types, members)
 }
 
 /// A composite stream without a name.
 pub fn composite_of(types: Option<StreamType>, kind: CompositeKind, block: Vec<Stmt>) -> Child
-    ensures { child_view result ≡ tree.AnonymousComposite types kind
+    ensures view { child_view result ≡ tree.AnonymousComposite types kind
         (row (map stmt_view block.items)) }
+    ensures made { result ≡ child.Composite types kind block }
 {
     Child::Composite(types, kind, block)
 }
