@@ -390,6 +390,14 @@ module _ (d : ℕ) (inner : Inner) (sound : (tokens : List TokenKind)
       (value, height, after) is (member_soundness tokens) in
       omega (arith, ap count read.spelled, member_length value read.shape after)
 
+  -- the tokens of a member that was read spell it
+  pub member_is_spelled : (tokens : List TokenKind) (value : tree.Member) (height : ℕ)
+      (after : List TokenKind) → member d inner tokens ≡ Ok (value, height, after)
+      → tokens ≡ member_spelled value after
+  member_is_spelled tokens value height after is =
+      (Sound-ok (MemberRead d tokens) (d - 1) tokens (member d inner tokens)
+      (value, height, after) is (member_soundness tokens)).spelled
+
   turn_soundness : (all : List TokenKind) (so_far : List tree.Member × ℕ) (tokens : List TokenKind)
       → RowRead d all so_far tokens → length tokens ≤ length all
       → Sound (λ x. RowRead d all x.0 x.1 × (length x.1 ≤ length all)) (d - 1) all

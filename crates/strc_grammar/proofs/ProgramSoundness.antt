@@ -225,6 +225,14 @@ declaration_shorter tokens value after is =
     let read = Sound-ok (DeclarationRead tokens) least tokens (declaration height_limit tokens)
     (value, after) is (declaration_soundness tokens) in omega (arith, read.long)
 
+-- the tokens of a declaration that was read spell it
+pub declaration_is_spelled : (tokens : List TokenKind) (value : tree.Declaration)
+    (after : List TokenKind) → declaration height_limit tokens ≡ Ok (value, after)
+    → tokens ≡ declaration_spelled value after
+declaration_is_spelled tokens value after is =
+    (Sound-ok (DeclarationRead tokens) least tokens (declaration height_limit tokens)
+    (value, after) is (declaration_soundness tokens)).spelled
+
 good_streams : (program : List tree.Declaration) → AllByRecursion IsGoodStream program
     → IsTree program × (height program ≤ height_limit)
 good_streams [] all = (tt, omega arith)

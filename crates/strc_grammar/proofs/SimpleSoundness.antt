@@ -31,7 +31,7 @@ use Rattle.strc_grammar.proofs.Stops.{expr_length}
 use Rattle.strc_grammar.proofs.VariableCompleteness.{variable_length, type_length}
 use Rattle.strc_grammar.proofs.SimpleCompleteness.{heading_height, part_length, step_first}
 use Rattle.strc_grammar.proofs.SimpleCompleteness.{optional_length, stmt_height_some}
-use Rattle.strc_grammar.proofs.Soundness.{Sound, Sound-then, Sound-on, Sound-expect, Sound-name}
+use Rattle.strc_grammar.proofs.Soundness.{Sound, Sound-ok, Sound-then, Sound-on, Sound-expect, Sound-name}
 use Rattle.strc_grammar.proofs.Soundness.{Sound-raised, Stopped, repeated_soundness, punctuation_is}
 use Rattle.strc_grammar.proofs.Soundness.{comma_is, no_comma_is, each_spelled-push, highest-push}
 use Rattle.strc_grammar.proofs.Soundness.{All-push}
@@ -607,6 +607,24 @@ past_soundness d all tokens le =
       high = omega (arith, tested.high, stepped.high);
       low = omega (arith, tested.low, stepped.low);
     }))
+
+-- the tokens of a step, and of the condition with the step, spell them
+pub step_is_spelled : (d : ℕ) (m : Punctuation) (tokens : List TokenKind) (value : tree.Stmt)
+    (height : ℕ) (after : List TokenKind) → optional (suc d) m tokens ≡ Ok (value, height, after)
+    → tokens ≡ part_spelled value after
+step_is_spelled d m tokens value height after is =
+    (Sound-ok (PartRead IsStep (suc d) tokens) d tokens (optional (suc d) m tokens)
+    (value, height, after) is (optional_soundness d tokens m)).spelled
+
+pub after_first_is_spelled : (d : ℕ) (tokens : List TokenKind)
+    (value : Option tree.Expr × tree.Stmt) (height : ℕ) (after : List TokenKind)
+    → after_first (suc d) tokens ≡ Ok (value, height, after)
+    → tokens ≡ optional_spelled value.0 (token.Punctuation punctuation.Semicolon
+    ∷ part_spelled value.1 (token.Punctuation punctuation.CloseParen ∷ after))
+after_first_is_spelled d tokens value height after is =
+    let all = token.Punctuation punctuation.OpenParen ∷ tokens in
+    (Sound-ok (BehindRead (suc d) tokens) d all (after_first (suc d) tokens) (value, height, after)
+    is (past_soundness d all tokens (omega arith))).spelled
 
 -- what is in the brackets of a `for`
 pub record HeadingRead (depth : ℕ) (tokens : List TokenKind)

@@ -1,13 +1,16 @@
 // Statements of composite streams, and the streams without names in them. A child is a node below
 // its statement.
 
-ghost use Rattle.std.specs.Prelude.{◌≡◌, ◌-◌, ◌<◌};
+ghost use Rattle.std.specs.Prelude.{◌≡◌, ◌-◌, ◌<◌, List, IfOk};
+ghost use Rattle.strc_lex.specs.declared.token.Token.{Token};
+ghost use Rattle.strc_lex.specs.declared.token.TokenKind.{TokenKind};
 ghost use Rattle.strc_grammar.specs.Grammar.{kinds};
 ghost use Rattle.strc_syntax.specs.View.{weights_view, stmt_view, child_view};
 ghost use Rattle.strc_syntax.specs.View.{splitter_view, composition_view};
 ghost use Rattle.strc_grammar.specs.Seen.{parsed};
 ghost use Rattle.strc_grammar.specs.Streams as spec;
 ghost use Rattle.strc_grammar.specs.Reading.{Gives};
+ghost use Rattle.strc_parse.specs.Placed.{IsChildPlaced, IsPartPlaced, IsPlacedWithin};
 ghost use Rattle.strc_parse.specs.Readers.{ReadsStatements};
 
 use crate::control::StatementRules;
@@ -32,7 +35,9 @@ fn named_child<'t>(
     name: Name,
     tokens: &'t [Token],
 ) -> Result<Parsed<'t, Child>, ReadError>
-    ensures { Gives (parsed child_view) result (spec.named_child limit name (kinds tokens.now)) }
+    ensures gives { Gives (parsed child_view) result (spec.named_child limit name (kinds tokens.now)) }
+    ensures plain { IfOk result (λ r. (all : List Token) (rest : List TokenKind)
+        → IsChildPlaced all r.value rest) }
 {
     let given = with_mark(Punctuation::Semicolon, arguments(alloc, limit, tokens))?;
     Ok(Parsed::new(Child::Named(name, given.value), given.height, given.rest))
@@ -41,7 +46,9 @@ fn named_child<'t>(
 /// `<int>();`: after the keyword.
 #[tactic(auto, unfolding(strc_grammar::specs::Streams::identity))]
 fn identity(tokens: &[Token]) -> Result<Parsed<'_, Child>, ReadError>
-    ensures { Gives (parsed child_view) result (spec.identity (kinds tokens.now)) }
+    ensures gives { Gives (parsed child_view) result (spec.identity (kinds tokens.now)) }
+    ensures plain { IfOk result (λ r. (all : List Token) (rest : List TokenKind)
+        → IsChildPlaced all r.value rest) }
 {
     let opened = int_items(tokens)?;
     let brackets = leaf_of(empty_brackets(opened), Child::Identity);
@@ -90,7 +97,9 @@ fn split(
     tokens: &[Token],
 ) -> Result<Parsed<'_, Composition>, ReadError>
     requires { 0 < depth }
-    ensures { Gives (parsed composition_view) result (spec.split depth (kinds tokens.now)) }
+    ensures gives { Gives (parsed composition_view) result (spec.split depth (kinds tokens.now)) }
+    ensures plain { IfOk result (λ r. (all : List Token) (rest : List TokenKind)
+        → IsPartPlaced all r.value rest) }
 {
     let splitter = splitter(alloc, depth - 1, tokens);
     let splitter = with_mark(Punctuation::Semicolon, splitter);
@@ -101,7 +110,9 @@ fn split(
 #[tactic(auto, unfolding(strc_grammar::specs::Streams::join))]
 fn join(alloc: Global, depth: usize, tokens: &[Token]) -> Result<Parsed<'_, Composition>, ReadError>
     requires { 0 < depth }
-    ensures { Gives (parsed composition_view) result (spec.join depth (kinds tokens.now)) }
+    ensures gives { Gives (parsed composition_view) result (spec.join depth (kinds tokens.now)) }
+    ensures plain { IfOk result (λ r. (all : List Token) (rest : List TokenKind)
+        → IsPartPlaced all r.value rest) }
 {
     let weights = weights(alloc, depth - 1, tokens);
     let weights = with_mark(Punctuation::Semicolon, weights);
@@ -116,26 +127,33 @@ fn enqueue(
     tokens: &[Token],
 ) -> Result<Parsed<'_, Composition>, ReadError>
     requires { 0 < depth }
-    ensures { Gives (parsed composition_view) result (spec.enqueue depth (kinds tokens.now)) }
+    ensures gives { Gives (parsed composition_view) result (spec.enqueue depth (kinds tokens.now)) }
+    ensures plain { IfOk result (λ r. (all : List Token) (rest : List TokenKind)
+        → IsPartPlaced all r.value rest) }
 {
     let value = closed(alloc, depth - 1, Punctuation::Semicolon, tokens);
     node_of(value, Composition::Enqueue)
 }
 
 // Children come with the height of their highest part, or 0.
-impl<F: Fn(Global, usize, &[Token]) -> Result<Parsed<'_, Stmt>, ReadError>> StatementRules<F> {
+impl<'t, F> StatementRules<'t, F>
+where
+    F: Fn(Global, &'t [Token], usize, &'t [Token]) -> Result<Parsed<'t, Stmt>, ReadError>,
+{
     /// A filter without a name: after its keyword.
-    #[tactic(auto, unfolding(strc_grammar::specs::Streams::anonymous_filter))]
-    fn anonymous_filter<'t>(
+    #[tactic(auto, unfolding(strc_grammar::specs::Streams::anonymous_filter), using(crate::proofs::Placed::filter_placed))]
+    fn anonymous_filter(
         &self,
         types: StreamType,
         tokens: &'t [Token],
     ) -> Result<Parsed<'t, Child>, ReadError>
         requires deep { 0 < self.now.depth }
-        requires reads { ReadsStatements (self.now.depth - 1)
+        requires reads { ReadsStatements self.now.all.now (self.now.depth - 1)
             (F.pre self.now.reader) (F.post self.now.reader) }
-        ensures { Gives (parsed child_view) result (spec.anonymous_filter (self.now.depth - 1)
+        ensures gives { Gives (parsed child_view) result (spec.anonymous_filter (self.now.depth - 1)
             (spec.statement (self.now.depth - 1)) types (kinds tokens.now)) }
+        ensures placed { IfOk result (λ r.
+            IsChildPlaced self.now.all.now r.value (kinds r.rest.now)) }
     {
         let opened = expect(Punctuation::OpenBrace, tokens)?;
         let members = self.members(opened)?;
@@ -147,18 +165,20 @@ impl<F: Fn(Global, usize, &[Token]) -> Result<Parsed<'_, Stmt>, ReadError>> Stat
     }
 
     /// A composite stream without a name: at its kind.
-    #[tactic(auto, unfolding(strc_grammar::specs::Streams::anonymous_composite))]
-    fn anonymous_composite<'t>(
+    #[tactic(auto, unfolding(strc_grammar::specs::Streams::anonymous_composite), using(crate::proofs::Placed::composite_placed))]
+    fn anonymous_composite(
         &self,
         types: Option<StreamType>,
         tokens: &'t [Token],
     ) -> Result<Parsed<'t, Child>, ReadError>
         requires deep { 0 < self.now.depth }
-        requires reads { ReadsStatements (self.now.depth - 1)
+        requires reads { ReadsStatements self.now.all.now (self.now.depth - 1)
             (F.pre self.now.reader) (F.post self.now.reader) }
-        ensures { Gives (parsed child_view) result
+        ensures gives { Gives (parsed child_view) result
             (spec.anonymous_composite (spec.statement (self.now.depth - 1)) types
             (kinds tokens.now)) }
+        ensures placed { IfOk result (λ r.
+            IsChildPlaced self.now.all.now r.value (kinds r.rest.now)) }
     {
         match composite_kind(tokens) {
             None => Err(unexpected(tokens)),
@@ -175,16 +195,18 @@ impl<F: Fn(Global, usize, &[Token]) -> Result<Parsed<'_, Stmt>, ReadError>> Stat
 
     /// A stream without a name: after its type.
     #[tactic(auto, unfolding(strc_grammar::specs::Streams::after_type))]
-    fn after_type<'t>(
+    fn after_type(
         &self,
         types: StreamType,
         tokens: &'t [Token],
     ) -> Result<Parsed<'t, Child>, ReadError>
         requires deep { 0 < self.now.depth }
-        requires reads { ReadsStatements (self.now.depth - 1)
+        requires reads { ReadsStatements self.now.all.now (self.now.depth - 1)
             (F.pre self.now.reader) (F.post self.now.reader) }
-        ensures { Gives (parsed child_view) result (spec.after_type (self.now.depth - 1)
+        ensures gives { Gives (parsed child_view) result (spec.after_type (self.now.depth - 1)
             (spec.statement (self.now.depth - 1)) types (kinds tokens.now)) }
+        ensures placed { IfOk result (λ r.
+            IsChildPlaced self.now.all.now r.value (kinds r.rest.now)) }
     {
         if is_keyword(Keyword::Filter, tokens) {
             self.anonymous_filter(types, tail(tokens))
@@ -195,12 +217,14 @@ impl<F: Fn(Global, usize, &[Token]) -> Result<Parsed<'_, Stmt>, ReadError>> Stat
 
     /// The same with its type.
     #[tactic(auto, unfolding(strc_grammar::specs::Streams::typed_child))]
-    fn typed_child<'t>(&self, tokens: &'t [Token]) -> Result<Parsed<'t, Child>, ReadError>
+    fn typed_child(&self, tokens: &'t [Token]) -> Result<Parsed<'t, Child>, ReadError>
         requires deep { 0 < self.now.depth }
-        requires reads { ReadsStatements (self.now.depth - 1)
+        requires reads { ReadsStatements self.now.all.now (self.now.depth - 1)
             (F.pre self.now.reader) (F.post self.now.reader) }
-        ensures { Gives (parsed child_view) result (spec.typed_child (self.now.depth - 1)
+        ensures gives { Gives (parsed child_view) result (spec.typed_child (self.now.depth - 1)
             (spec.statement (self.now.depth - 1)) (kinds tokens.now)) }
+        ensures placed { IfOk result (λ r.
+            IsChildPlaced self.now.all.now r.value (kinds r.rest.now)) }
     {
         let (types, rest) = stream_type(tokens)?;
         self.after_type(types, rest)
@@ -208,16 +232,18 @@ impl<F: Fn(Global, usize, &[Token]) -> Result<Parsed<'_, Stmt>, ReadError>> Stat
 
     /// A child that begins with this keyword.
     #[tactic(auto, unfolding(strc_grammar::specs::Streams::keyword_child))]
-    fn keyword_child<'t>(
+    fn keyword_child(
         &self,
         keyword: Keyword,
         tokens: &'t [Token],
     ) -> Result<Parsed<'t, Child>, ReadError>
         requires deep { 0 < self.now.depth }
-        requires reads { ReadsStatements (self.now.depth - 1)
+        requires reads { ReadsStatements self.now.all.now (self.now.depth - 1)
             (F.pre self.now.reader) (F.post self.now.reader) }
-        ensures { Gives (parsed child_view) result (spec.keyword_child (self.now.depth - 1)
+        ensures gives { Gives (parsed child_view) result (spec.keyword_child (self.now.depth - 1)
             (spec.statement (self.now.depth - 1)) keyword (kinds tokens.now)) }
+        ensures placed { IfOk result (λ r.
+            IsChildPlaced self.now.all.now r.value (kinds r.rest.now)) }
     {
         match keyword {
             Keyword::Identity => identity(tail(tokens)),
@@ -231,12 +257,14 @@ impl<F: Fn(Global, usize, &[Token]) -> Result<Parsed<'_, Stmt>, ReadError>> Stat
 
     /// A child, with its semicolon where it has one.
     #[tactic(auto, unfolding(strc_grammar::specs::Streams::child))]
-    fn child<'t>(&self, tokens: &'t [Token]) -> Result<Parsed<'t, Child>, ReadError>
+    fn child(&self, tokens: &'t [Token]) -> Result<Parsed<'t, Child>, ReadError>
         requires deep { 0 < self.now.depth }
-        requires reads { ReadsStatements (self.now.depth - 1)
+        requires reads { ReadsStatements self.now.all.now (self.now.depth - 1)
             (F.pre self.now.reader) (F.post self.now.reader) }
-        ensures { Gives (parsed child_view) result (spec.child (self.now.depth - 1)
+        ensures gives { Gives (parsed child_view) result (spec.child (self.now.depth - 1)
             (spec.statement (self.now.depth - 1)) (kinds tokens.now)) }
+        ensures placed { IfOk result (λ r.
+            IsChildPlaced self.now.all.now r.value (kinds r.rest.now)) }
     {
         match peek(tokens) {
             Some(TokenKind::Name(name)) => {
@@ -249,16 +277,18 @@ impl<F: Fn(Global, usize, &[Token]) -> Result<Parsed<'_, Stmt>, ReadError>> Stat
 
     /// A child for this, and its height: after the keyword.
     #[tactic(auto, unfolding(strc_grammar::specs::Streams::child_for))]
-    fn child_for<'t>(
+    fn child_for(
         &self,
         role: Role,
         tokens: &'t [Token],
     ) -> Result<Parsed<'t, Composition>, ReadError>
         requires deep { 0 < self.now.depth }
-        requires reads { ReadsStatements (self.now.depth - 1)
+        requires reads { ReadsStatements self.now.all.now (self.now.depth - 1)
             (F.pre self.now.reader) (F.post self.now.reader) }
-        ensures { Gives (parsed composition_view) result (spec.child_for self.now.depth
+        ensures gives { Gives (parsed composition_view) result (spec.child_for self.now.depth
             (spec.statement (self.now.depth - 1)) role (kinds tokens.now)) }
+        ensures placed { IfOk result (λ r.
+            IsPartPlaced self.now.all.now r.value (kinds r.rest.now)) }
     {
         let child = with_node_height(self.depth, self.child(tokens))?;
         Ok(Parsed::new(
@@ -270,16 +300,18 @@ impl<F: Fn(Global, usize, &[Token]) -> Result<Parsed<'_, Stmt>, ReadError>> Stat
 
     /// A statement of a composite stream that begins with this keyword, and the height of its part.
     #[tactic(auto, unfolding(strc_grammar::specs::Streams::composition))]
-    fn composition<'t>(
+    fn composition(
         &self,
         keyword: Keyword,
         tokens: &'t [Token],
     ) -> Result<Parsed<'t, Composition>, ReadError>
         requires deep { 0 < self.now.depth }
-        requires reads { ReadsStatements (self.now.depth - 1)
+        requires reads { ReadsStatements self.now.all.now (self.now.depth - 1)
             (F.pre self.now.reader) (F.post self.now.reader) }
-        ensures { Gives (parsed composition_view) result (spec.composition self.now.depth
+        ensures gives { Gives (parsed composition_view) result (spec.composition self.now.depth
             (spec.statement (self.now.depth - 1)) keyword (kinds tokens.now)) }
+        ensures placed { IfOk result (λ r.
+            IsPartPlaced self.now.all.now r.value (kinds r.rest.now)) }
     {
         match keyword {
             Keyword::Add => self.child_for(Role::Add, tail(tokens)),
@@ -294,16 +326,18 @@ impl<F: Fn(Global, usize, &[Token]) -> Result<Parsed<'_, Stmt>, ReadError>> Stat
 
     /// The same as a statement, and its height.
     #[tactic(auto, unfolding(strc_grammar::specs::Streams::compose))]
-    pub(crate) fn compose<'t>(
+    pub(crate) fn compose(
         &self,
         keyword: Keyword,
         tokens: &'t [Token],
     ) -> Result<Parsed<'t, Stmt>, ReadError>
         requires deep { 0 < self.now.depth }
-        requires reads { ReadsStatements (self.now.depth - 1)
+        requires reads { ReadsStatements self.now.all.now (self.now.depth - 1)
             (F.pre self.now.reader) (F.post self.now.reader) }
-        ensures { Gives (parsed stmt_view) result (spec.compose self.now.depth
+        ensures gives { Gives (parsed stmt_view) result (spec.compose self.now.depth
             (spec.statement (self.now.depth - 1)) keyword (kinds tokens.now)) }
+        ensures placed { IfOk result (λ r.
+            IsPlacedWithin self.now.all.now r.value (kinds r.rest.now)) }
     {
         let composition = with_node_height(self.depth, self.composition(keyword, tokens))?;
         Ok(Parsed::new(

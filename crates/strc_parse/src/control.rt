@@ -1,14 +1,18 @@
 // Statements with others in them. The rules of a depth are made of the reader of the depth below,
 // which they take as a value, so that each is proved by itself.
 
-ghost use Rattle.std.specs.Prelude.{◌≡◌, ◌-◌, ◌<◌, max, map, IfOk};
+ghost use Rattle.std.specs.Prelude.{◌≡◌, ◌∷◌, ◌-◌, ◌<◌, max, map, true, IfOk};
 ghost use Rattle.strc_syntax.specs.View.{expr_view, stmt_view, member_view};
 ghost use Rattle.strc_grammar.specs.Grammar.{kinds};
 ghost use Rattle.strc_grammar.specs.Seen.{parsed, parsed_all};
 ghost use Rattle.strc_grammar.specs.Streams as spec;
 ghost use Rattle.strc_grammar.specs.Reading as reading;
-ghost use Rattle.strc_grammar.specs.Reading.{Gives};
-ghost use Rattle.strc_parse.specs.Placed.{IsSpelledAtItsPlace};
+ghost use Rattle.strc_grammar.specs.Reading.{Gives, is_keyword};
+ghost use Rattle.strc_lex.specs.declared.token.TokenKind.TheVariants as token;
+ghost use Rattle.strc_lex.specs.declared.token.Keyword.TheVariants as keyword;
+ghost use Rattle.strc_lex.specs.declared.token.Punctuation.TheVariants as punctuation;
+ghost use Rattle.strc_parse.specs.Placed.{ArePartsPlaced, IsBlockPlaced, IsPlaced};
+ghost use Rattle.strc_parse.specs.Placed.{IsPlacedWithin, IsReadAt};
 ghost use Rattle.strc_parse.specs.Readers.{ReadsStatements};
 
 use crate::kept::{node_of, node_of_three, node_of_two, with_next, with_node_height};
@@ -22,24 +26,33 @@ use strc_lex::token::{Keyword, Punctuation, Token, TokenKind};
 use strc_syntax::node::{block_of, for_of, if_else_of, if_of, while_of};
 use strc_syntax::tree::{Expr, Member, Stmt};
 
-/// The rules of statements of at most this height, by a reader of those of one less.
+/// The rules of statements of at most this height in a text of these tokens, by a reader of those of
+/// one less. What is read is among the last of the tokens.
 #[derive(Clone, Copy)]
-pub(crate) struct StatementRules<F> {
+pub(crate) struct StatementRules<'t, F> {
     pub(crate) alloc: Global,
+    pub(crate) all: &'t [Token],
     pub(crate) depth: usize,
     pub(crate) reader: F,
 }
 
 /// A statement of at most this height, its height and what follows it.
 #[tactic(auto, unfolding(strc_grammar::specs::Streams::statement))]
-fn statement(alloc: Global, depth: usize, tokens: &[Token]) -> Result<Parsed<'_, Stmt>, ReadError>
-    ensures { Gives (parsed stmt_view) result (spec.statement depth (kinds tokens.now)) }
+fn statement<'t>(
+    alloc: Global,
+    all: &'t [Token],
+    depth: usize,
+    tokens: &'t [Token],
+) -> Result<Parsed<'t, Stmt>, ReadError>
+    ensures gives { Gives (parsed stmt_view) result (spec.statement depth (kinds tokens.now)) }
+    ensures placed { IfOk result (λ r. IsPlacedWithin all.now r.value (kinds r.rest.now)) }
 {
     if depth == 0 {
         return Err(ReadError::Fault(Fault::Nesting));
     }
     let rules = StatementRules {
         alloc,
+        all,
         depth,
         reader: statement,
     };
@@ -49,17 +62,21 @@ fn statement(alloc: Global, depth: usize, tokens: &[Token]) -> Result<Parsed<'_,
 /// Statements up to the brace that closes them, each of at most this height, and the height of the
 /// highest or 0.
 #[tactic(auto, unfolding(strc_grammar::specs::Streams::statements))]
-pub(crate) fn statements(
+pub(crate) fn statements<'t>(
     alloc: Global,
+    all: &'t [Token],
     depth: usize,
-    tokens: &[Token],
-) -> Result<Parsed<'_, Vec<Stmt>>, ReadError>
+    tokens: &'t [Token],
+) -> Result<Parsed<'t, Vec<Stmt>>, ReadError>
     requires bound { depth < 1000 }
-    ensures { Gives (parsed_all stmt_view) result
+    ensures gives { Gives (parsed_all stmt_view) result
         (spec.statements (spec.statement depth) (kinds tokens.now)) }
+    ensures placed { IfOk result (λ r. IsBlockPlaced all.now r.value.items
+        (token.Punctuation punctuation.CloseBrace ∷ kinds r.rest.now)) }
 {
     let rules = StatementRules {
         alloc,
+        all,
         depth: depth + 1,
         reader: statement,
     };
@@ -68,45 +85,54 @@ pub(crate) fn statements(
 
 /// The members of a filter up to the brace that closes it, their statements and expressions each of
 /// at most this height, and the height of the highest or 0.
-pub(crate) fn members(
+pub(crate) fn members<'t>(
     alloc: Global,
+    all: &'t [Token],
     depth: usize,
-    tokens: &[Token],
-) -> Result<Parsed<'_, Vec<Member>>, ReadError>
+    tokens: &'t [Token],
+) -> Result<Parsed<'t, Vec<Member>>, ReadError>
     requires bound { depth < 1000 }
-    ensures { Gives (parsed_all member_view) result
+    ensures gives { Gives (parsed_all member_view) result
         (spec.members depth (spec.statement depth) (kinds tokens.now)) }
+    ensures placed { IfOk result (λ r. ArePartsPlaced all.now r.value.items
+        (token.Punctuation punctuation.CloseBrace ∷ kinds r.rest.now)) }
 {
     let rules = StatementRules {
         alloc,
+        all,
         depth: depth + 1,
         reader: statement,
     };
     rules.members(tokens)
 }
 
-impl<F: Fn(Global, usize, &[Token]) -> Result<Parsed<'_, Stmt>, ReadError>> StatementRules<F> {
+impl<'t, F> StatementRules<'t, F>
+where
+    F: Fn(Global, &'t [Token], usize, &'t [Token]) -> Result<Parsed<'t, Stmt>, ReadError>,
+{
     /// A statement one depth below, with its place in the text.
-    #[tactic(auto, using(crate::proofs::Placed::spelled_at_its_place))]
-    fn below<'t>(&self, tokens: &'t [Token]) -> Result<Parsed<'t, Stmt>, ReadError>
+    #[tactic(auto, using(crate::proofs::Placed::read_at_its_place))]
+    fn below(&self, tokens: &'t [Token]) -> Result<Parsed<'t, Stmt>, ReadError>
         requires deep { 0 < self.now.depth }
-        requires reads { ReadsStatements (self.now.depth - 1)
+        requires reads { ReadsStatements self.now.all.now (self.now.depth - 1)
             (F.pre self.now.reader) (F.post self.now.reader) }
         ensures gives { Gives (parsed stmt_view) result
             (spec.statement (self.now.depth - 1) (kinds tokens.now)) }
-        ensures placed { IfOk result (IsSpelledAtItsPlace tokens.now) }
+        ensures placed { IfOk result (IsReadAt self.now.all.now tokens.now) }
     {
-        let read = (self.reader)(self.alloc, self.depth - 1, tokens)?;
-        placed(self.alloc, tokens, read)
+        let read = (self.reader)(self.alloc, self.all, self.depth - 1, tokens)?;
+        placed(self.alloc, self.all, tokens, read)
     }
 
     #[tactic(auto, unfolding(strc_grammar::specs::Streams::shallow))]
-    fn shallow<'t>(&self, tokens: &'t [Token]) -> Result<Parsed<'t, Stmt>, ReadError>
+    fn shallow(&self, tokens: &'t [Token]) -> Result<Parsed<'t, Stmt>, ReadError>
         requires deep { 0 < self.now.depth }
-        requires reads { ReadsStatements (self.now.depth - 1)
+        requires reads { ReadsStatements self.now.all.now (self.now.depth - 1)
             (F.pre self.now.reader) (F.post self.now.reader) }
-        ensures { Gives (parsed stmt_view) result
+        ensures gives { Gives (parsed stmt_view) result
             (spec.shallow self.now.depth (spec.statement (self.now.depth - 1)) (kinds tokens.now)) }
+        ensures placed { IfOk result (λ r.
+            IsPlacedWithin self.now.all.now r.value (kinds r.rest.now)) }
     {
         match peek(tokens) {
             Some(TokenKind::Punctuation(Punctuation::OpenBrace)) => self.block(tail(tokens)),
@@ -117,17 +143,19 @@ impl<F: Fn(Global, usize, &[Token]) -> Result<Parsed<'_, Stmt>, ReadError>> Stat
 
     /// A statement that begins with this keyword.
     #[tactic(auto, unfolding(strc_grammar::specs::Streams::keyword_statement))]
-    fn keyword_statement<'t>(
+    fn keyword_statement(
         &self,
         keyword: Keyword,
         tokens: &'t [Token],
     ) -> Result<Parsed<'t, Stmt>, ReadError>
         requires deep { 0 < self.now.depth }
-        requires reads { ReadsStatements (self.now.depth - 1)
+        requires reads { ReadsStatements self.now.all.now (self.now.depth - 1)
             (F.pre self.now.reader) (F.post self.now.reader) }
-        ensures { Gives (parsed stmt_view) result
+        ensures gives { Gives (parsed stmt_view) result
             (spec.keyword_statement self.now.depth (spec.statement (self.now.depth - 1)) keyword
             (kinds tokens.now)) }
+        ensures placed { IfOk result (λ r.
+            IsPlacedWithin self.now.all.now r.value (kinds r.rest.now)) }
     {
         match keyword {
             Keyword::If => self.branch(tail(tokens)),
@@ -152,12 +180,14 @@ impl<F: Fn(Global, usize, &[Token]) -> Result<Parsed<'_, Stmt>, ReadError>> Stat
 
     /// `if`: after the keyword.
     #[tactic(auto, unfolding(strc_grammar::specs::Streams::branch))]
-    fn branch<'t>(&self, tokens: &'t [Token]) -> Result<Parsed<'t, Stmt>, ReadError>
+    fn branch(&self, tokens: &'t [Token]) -> Result<Parsed<'t, Stmt>, ReadError>
         requires deep { 0 < self.now.depth }
-        requires reads { ReadsStatements (self.now.depth - 1)
+        requires reads { ReadsStatements self.now.all.now (self.now.depth - 1)
             (F.pre self.now.reader) (F.post self.now.reader) }
-        ensures { Gives (parsed stmt_view) result
+        ensures gives { Gives (parsed stmt_view) result
             (spec.branch self.now.depth (spec.statement (self.now.depth - 1)) (kinds tokens.now)) }
+        ensures placed { IfOk result (λ r.
+            IsPlacedWithin self.now.all.now r.value (kinds r.rest.now)) }
     {
         let condition = bracketed(self.alloc, self.depth, tokens)?;
         let chosen = self.below(condition.rest)?;
@@ -165,19 +195,22 @@ impl<F: Fn(Global, usize, &[Token]) -> Result<Parsed<'_, Stmt>, ReadError>> Stat
     }
 
     /// What follows a branch, to which an `else` belongs that comes next.
-    #[tactic(auto, unfolding(strc_grammar::specs::Streams::after_branch))]
-    fn after_branch<'t>(
+    #[tactic(auto, unfolding(strc_grammar::specs::Streams::after_branch), using(crate::proofs::Placed::if_within))]
+    fn after_branch(
         &self,
         condition: Parsed<'t, Expr>,
         chosen: Parsed<'t, Stmt>,
     ) -> Result<Parsed<'t, Stmt>, ReadError>
         requires deep { 0 < self.now.depth }
-        requires reads { ReadsStatements (self.now.depth - 1)
+        requires reads { ReadsStatements self.now.all.now (self.now.depth - 1)
             (F.pre self.now.reader) (F.post self.now.reader) }
-        ensures { Gives (parsed stmt_view) result
+        requires placed { IsPlaced self.now.all.now chosen.value (kinds chosen.rest.now) }
+        ensures gives { Gives (parsed stmt_view) result
             (spec.after_branch self.now.depth (spec.statement (self.now.depth - 1))
             (expr_view condition.entry.value) (stmt_view chosen.entry.value)
             (max condition.entry.height chosen.entry.height) (kinds chosen.entry.rest.now)) }
+        ensures placed { IfOk result (λ r.
+            IsPlacedWithin self.now.all.now r.value (kinds r.rest.now)) }
     {
         if is_keyword(Keyword::Else, chosen.rest) {
             self.other_branch(condition, chosen)
@@ -187,34 +220,40 @@ impl<F: Fn(Global, usize, &[Token]) -> Result<Parsed<'_, Stmt>, ReadError>> Stat
     }
 
     /// The branch after the `else` that comes next, with what is before it.
-    #[tactic(auto, unfolding(strc_grammar::specs::Streams::other_branch))]
-    fn other_branch<'t>(
+    #[tactic(auto, unfolding(strc_grammar::specs::Streams::other_branch), using(crate::proofs::Placed::if_else_joined))]
+    fn other_branch(
         &self,
         condition: Parsed<'t, Expr>,
         chosen: Parsed<'t, Stmt>,
     ) -> Result<Parsed<'t, Stmt>, ReadError>
         requires deep { 0 < self.now.depth }
-        requires reads { ReadsStatements (self.now.depth - 1)
+        requires reads { ReadsStatements self.now.all.now (self.now.depth - 1)
             (F.pre self.now.reader) (F.post self.now.reader) }
-        ensures { Gives (parsed stmt_view) result
+        requires placed { IsPlaced self.now.all.now chosen.value (kinds chosen.rest.now) }
+        requires joins { is_keyword keyword.Else (kinds chosen.rest.now) ≡ true }
+        ensures gives { Gives (parsed stmt_view) result
             (spec.other_branch self.now.depth (spec.statement (self.now.depth - 1))
             (expr_view condition.entry.value) (stmt_view chosen.entry.value)
             (max condition.entry.height chosen.entry.height)
             (reading.tail (kinds chosen.entry.rest.now))) }
+        ensures placed { IfOk result (λ r.
+            IsPlacedWithin self.now.all.now r.value (kinds r.rest.now)) }
     {
         let other = self.below(tail(chosen.rest));
         node_of_three(self.alloc, self.depth, condition, chosen, other, if_else_of)
     }
 
     /// `while`: after the keyword.
-    #[tactic(auto, unfolding(strc_grammar::specs::Streams::while_loop))]
-    fn while_loop<'t>(&self, tokens: &'t [Token]) -> Result<Parsed<'t, Stmt>, ReadError>
+    #[tactic(auto, unfolding(strc_grammar::specs::Streams::while_loop), using(crate::proofs::Placed::while_within))]
+    fn while_loop(&self, tokens: &'t [Token]) -> Result<Parsed<'t, Stmt>, ReadError>
         requires deep { 0 < self.now.depth }
-        requires reads { ReadsStatements (self.now.depth - 1)
+        requires reads { ReadsStatements self.now.all.now (self.now.depth - 1)
             (F.pre self.now.reader) (F.post self.now.reader) }
-        ensures { Gives (parsed stmt_view) result
+        ensures gives { Gives (parsed stmt_view) result
             (spec.while_loop self.now.depth (spec.statement (self.now.depth - 1))
             (kinds tokens.now)) }
+        ensures placed { IfOk result (λ r.
+            IsPlacedWithin self.now.all.now r.value (kinds r.rest.now)) }
     {
         let condition = bracketed(self.alloc, self.depth, tokens)?;
         let body = self.below(condition.rest);
@@ -222,16 +261,18 @@ impl<F: Fn(Global, usize, &[Token]) -> Result<Parsed<'_, Stmt>, ReadError>> Stat
     }
 
     /// `for`: after the keyword.
-    #[tactic(auto, unfolding(strc_grammar::specs::Streams::for_loop))]
-    fn for_loop<'t>(&self, tokens: &'t [Token]) -> Result<Parsed<'t, Stmt>, ReadError>
+    #[tactic(auto, unfolding(strc_grammar::specs::Streams::for_loop), using(crate::proofs::Placed::for_within))]
+    fn for_loop(&self, tokens: &'t [Token]) -> Result<Parsed<'t, Stmt>, ReadError>
         requires deep { 0 < self.now.depth }
-        requires reads { ReadsStatements (self.now.depth - 1)
+        requires reads { ReadsStatements self.now.all.now (self.now.depth - 1)
             (F.pre self.now.reader) (F.post self.now.reader) }
-        ensures { Gives (parsed stmt_view) result
+        ensures gives { Gives (parsed stmt_view) result
             (spec.for_loop self.now.depth (spec.statement (self.now.depth - 1))
             (kinds tokens.now)) }
+        ensures placed { IfOk result (λ r.
+            IsPlacedWithin self.now.all.now r.value (kinds r.rest.now)) }
     {
-        let heading = for_heading(self.alloc, self.depth, tokens)?;
+        let heading = for_heading(self.alloc, self.all, self.depth, tokens)?;
         let body = self.below(heading.rest)?;
         let height = raised(self.depth, heading.height.max(body.height))?;
         let (first, (condition, step)) = heading.value;
@@ -240,13 +281,15 @@ impl<F: Fn(Global, usize, &[Token]) -> Result<Parsed<'_, Stmt>, ReadError>> Stat
     }
 
     /// A block as a statement: after its brace.
-    #[tactic(auto, unfolding(strc_grammar::specs::Streams::block))]
-    fn block<'t>(&self, tokens: &'t [Token]) -> Result<Parsed<'t, Stmt>, ReadError>
+    #[tactic(auto, unfolding(strc_grammar::specs::Streams::block), using(crate::proofs::Placed::block_within))]
+    fn block(&self, tokens: &'t [Token]) -> Result<Parsed<'t, Stmt>, ReadError>
         requires deep { 0 < self.now.depth }
-        requires reads { ReadsStatements (self.now.depth - 1)
+        requires reads { ReadsStatements self.now.all.now (self.now.depth - 1)
             (F.pre self.now.reader) (F.post self.now.reader) }
-        ensures { Gives (parsed stmt_view) result
+        ensures gives { Gives (parsed stmt_view) result
             (spec.block self.now.depth (spec.statement (self.now.depth - 1)) (kinds tokens.now)) }
+        ensures placed { IfOk result (λ r.
+            IsPlacedWithin self.now.all.now r.value (kinds r.rest.now)) }
     {
         node_of(
             with_node_height(self.depth, self.statements(tokens)),
@@ -257,15 +300,14 @@ impl<F: Fn(Global, usize, &[Token]) -> Result<Parsed<'_, Stmt>, ReadError>> Stat
     /// Statements one depth below, up to the brace that closes them, and the height of the highest
     /// or 0.
     #[tactic(auto, unfolding(strc_grammar::specs::Streams::statements))]
-    pub(crate) fn statements<'t>(
-        &self,
-        tokens: &'t [Token],
-    ) -> Result<Parsed<'t, Vec<Stmt>>, ReadError>
+    pub(crate) fn statements(&self, tokens: &'t [Token]) -> Result<Parsed<'t, Vec<Stmt>>, ReadError>
         requires deep { 0 < self.now.depth }
-        requires reads { ReadsStatements (self.now.depth - 1)
+        requires reads { ReadsStatements self.now.all.now (self.now.depth - 1)
             (F.pre self.now.reader) (F.post self.now.reader) }
-        ensures { Gives (parsed_all stmt_view) result
+        ensures gives { Gives (parsed_all stmt_view) result
             (spec.statements (spec.statement (self.now.depth - 1)) (kinds tokens.entry.now)) }
+        ensures placed { IfOk result (λ r. IsBlockPlaced self.now.all.now r.value.items
+            (token.Punctuation punctuation.CloseBrace ∷ kinds r.rest.now)) }
     {
         let mut read = Parsed::new(Vec::new(self.alloc), 0, tokens);
         for _turn in 0..tokens.len() {

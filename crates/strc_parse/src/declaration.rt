@@ -1,11 +1,12 @@
 // Named streams and programs.
 
-ghost use Rattle.std.specs.Prelude.{◌≡◌, map, []};
+ghost use Rattle.std.specs.Prelude.{◌≡◌, map, [], IfOk};
 ghost use Rattle.strc_syntax.specs.View.{declaration_view};
 ghost use Rattle.strc_grammar.specs.Grammar.{kinds, height_limit};
 ghost use Rattle.strc_parse.specs.Seen.{seen_stream_heading, seen_declaration};
 ghost use Rattle.strc_grammar.specs.Streams as spec;
 ghost use Rattle.strc_grammar.specs.Reading.{Gives};
+ghost use Rattle.strc_parse.specs.Placed.{AreStreamsPlaced, IsReadPlaced};
 
 use crate::control::{members, statements};
 use std::alloc::Global;
@@ -34,11 +35,18 @@ fn heading(
 
 /// A filter: after its keyword.
 #[tactic(auto, unfolding(strc_grammar::specs::Streams::filter))]
-fn filter(alloc: Global, types: StreamType, tokens: &[Token]) -> Result<(Decl, &[Token]), ReadError>
-    ensures { Gives seen_declaration result (spec.filter height_limit types (kinds tokens.now)) }
+fn filter<'t>(
+    alloc: Global,
+    all: &'t [Token],
+    types: StreamType,
+    tokens: &'t [Token],
+) -> Result<(Decl, &'t [Token]), ReadError>
+    ensures gives { Gives seen_declaration result
+        (spec.filter height_limit types (kinds tokens.now)) }
+    ensures placed { IfOk result (IsReadPlaced all.now) }
 {
     let (name, parameters, rest) = heading(alloc, tokens)?;
-    let read = members(alloc, HEIGHT_LIMIT, rest)?;
+    let read = members(alloc, all, HEIGHT_LIMIT, rest)?;
     let members = read.value;
     let stream = StreamTree::Filter(FilterTree {
         input: types.input,
@@ -55,17 +63,19 @@ fn filter(alloc: Global, types: StreamType, tokens: &[Token]) -> Result<(Decl, &
 
 /// A composite stream: after its kind.
 #[tactic(auto, unfolding(strc_grammar::specs::Streams::composite))]
-fn composite(
+fn composite<'t>(
     alloc: Global,
+    all: &'t [Token],
     types: StreamType,
     kind: CompositeKind,
-    tokens: &[Token],
-) -> Result<(Decl, &[Token]), ReadError>
-    ensures { Gives seen_declaration result
+    tokens: &'t [Token],
+) -> Result<(Decl, &'t [Token]), ReadError>
+    ensures gives { Gives seen_declaration result
         (spec.composite height_limit types kind (kinds tokens.now)) }
+    ensures placed { IfOk result (IsReadPlaced all.now) }
 {
     let (name, parameters, rest) = heading(alloc, tokens)?;
-    let read = statements(alloc, HEIGHT_LIMIT, rest)?;
+    let read = statements(alloc, all, HEIGHT_LIMIT, rest)?;
     let block = read.value;
     let stream = StreamTree::Composite(CompositeTree { types, kind, block });
     let declared = Decl {
@@ -78,36 +88,50 @@ fn composite(
 
 /// A stream: after its type.
 #[tactic(auto, unfolding(strc_grammar::specs::Streams::stream))]
-fn stream(alloc: Global, types: StreamType, tokens: &[Token]) -> Result<(Decl, &[Token]), ReadError>
-    ensures { Gives seen_declaration result (spec.stream height_limit types (kinds tokens.now)) }
+fn stream<'t>(
+    alloc: Global,
+    all: &'t [Token],
+    types: StreamType,
+    tokens: &'t [Token],
+) -> Result<(Decl, &'t [Token]), ReadError>
+    ensures gives { Gives seen_declaration result
+        (spec.stream height_limit types (kinds tokens.now)) }
+    ensures placed { IfOk result (IsReadPlaced all.now) }
 {
     if is_keyword(Keyword::Filter, tokens) {
-        return filter(alloc, types, tail(tokens));
+        return filter(alloc, all, types, tail(tokens));
     }
     match composite_kind(tokens) {
         None => Err(unexpected(tokens)),
-        Some(kind) => composite(alloc, types, kind, tail(tokens)),
+        Some(kind) => composite(alloc, all, types, kind, tail(tokens)),
     }
 }
 
 #[tactic(auto, unfolding(strc_grammar::specs::Streams::declaration))]
-fn declaration(alloc: Global, tokens: &[Token]) -> Result<(Decl, &[Token]), ReadError>
-    ensures { Gives seen_declaration result (spec.declaration height_limit (kinds tokens.now)) }
+fn declaration<'t>(
+    alloc: Global,
+    all: &'t [Token],
+    tokens: &'t [Token],
+) -> Result<(Decl, &'t [Token]), ReadError>
+    ensures gives { Gives seen_declaration result
+        (spec.declaration height_limit (kinds tokens.now)) }
+    ensures placed { IfOk result (IsReadPlaced all.now) }
 {
     let (types, rest) = stream_type(tokens)?;
-    stream(alloc, types, rest)
+    stream(alloc, all, types, rest)
 }
 
 /// All declarations of a text.
 #[tactic(auto, unfolding(strc_grammar::specs::Streams::declarations))]
 pub(crate) fn declarations(alloc: Global, tokens: &[Token]) -> Result<Vec<Decl>, ReadError>
-    ensures { Gives (λ v. (map declaration_view v.items, [])) result
+    ensures gives { Gives (λ v. (map declaration_view v.items, [])) result
         (spec.declarations height_limit (kinds tokens.entry.now)) }
+    ensures placed { IfOk result (λ v. AreStreamsPlaced tokens.entry.now v.items []) }
 {
     let mut found = Vec::new(alloc);
     let mut rest = tokens;
     while !rest.is_empty() {
-        let (next, after) = declaration(alloc, rest)?;
+        let (next, after) = declaration(alloc, tokens, rest)?;
         found.push(next)?;
         rest = after;
     }

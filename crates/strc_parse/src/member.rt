@@ -1,12 +1,17 @@
 // The members of filters. Blocks in them are read by the rules of statements.
 
-ghost use Rattle.std.specs.Prelude.{◌≡◌, ◌-◌, ◌<◌, map};
+ghost use Rattle.std.specs.Prelude.{◌≡◌, ◌∷◌, ◌-◌, ◌<◌, List, map, IfOk};
+ghost use Rattle.strc_lex.specs.declared.token.Token.{Token};
+ghost use Rattle.strc_lex.specs.declared.token.TokenKind.{TokenKind};
+ghost use Rattle.strc_lex.specs.declared.token.TokenKind.TheVariants as token;
+ghost use Rattle.strc_lex.specs.declared.token.Punctuation.TheVariants as punctuation;
 ghost use Rattle.strc_syntax.specs.View.{expr_view, rate_view, member_view};
 ghost use Rattle.strc_grammar.specs.Grammar.{kinds};
 ghost use Rattle.strc_grammar.specs.Seen.{parsed, parsed_all};
 ghost use Rattle.strc_parse.specs.Seen.{block_view, phase_view, seen_rate};
 ghost use Rattle.strc_grammar.specs.Streams as spec;
 ghost use Rattle.strc_grammar.specs.Reading.{Gives};
+ghost use Rattle.strc_parse.specs.Placed.{IsBlockPlaced, IsMemberPlaced, ArePartsPlaced};
 ghost use Rattle.strc_parse.specs.Readers.{ReadsStatements};
 ghost use Rattle.strc_parse.specs.Parts as parts;
 
@@ -91,7 +96,9 @@ fn rates(
 /// Fields of one type, and the height of the highest expression or 0.
 #[tactic(auto, unfolding(strc_grammar::specs::Streams::fields))]
 fn fields(alloc: Global, limit: usize, tokens: &[Token]) -> Result<Parsed<'_, Member>, ReadError>
-    ensures { Gives (parsed member_view) result (spec.fields limit (kinds tokens.now)) }
+    ensures gives { Gives (parsed member_view) result (spec.fields limit (kinds tokens.now)) }
+    ensures plain { IfOk result (λ r. (all : List Token) (rest : List TokenKind)
+        → IsMemberPlaced all r.value rest) }
 {
     let declared = with_mark(Punctuation::Semicolon, declared(alloc, limit, tokens))?;
     Ok(Parsed::new(
@@ -103,28 +110,35 @@ fn fields(alloc: Global, limit: usize, tokens: &[Token]) -> Result<Parsed<'_, Me
 
 // Statements and expressions of a member are read one depth below, and the heights are those of its
 // highest part, or 0.
-impl<F: Fn(Global, usize, &[Token]) -> Result<Parsed<'_, Stmt>, ReadError>> StatementRules<F> {
+impl<'t, F> StatementRules<'t, F>
+where
+    F: Fn(Global, &'t [Token], usize, &'t [Token]) -> Result<Parsed<'t, Stmt>, ReadError>,
+{
     /// A block with its braces.
     #[tactic(auto, unfolding(strc_grammar::specs::Streams::braced))]
-    pub(crate) fn braced<'t>(&self, tokens: &'t [Token]) -> Result<Parsed<'t, Vec<Stmt>>, ReadError>
+    pub(crate) fn braced(&self, tokens: &'t [Token]) -> Result<Parsed<'t, Vec<Stmt>>, ReadError>
         requires deep { 0 < self.now.depth }
-        requires reads { ReadsStatements (self.now.depth - 1)
+        requires reads { ReadsStatements self.now.all.now (self.now.depth - 1)
             (F.pre self.now.reader) (F.post self.now.reader) }
-        ensures { Gives (parsed block_view) result
+        ensures gives { Gives (parsed block_view) result
             (spec.braced (spec.statement (self.now.depth - 1)) (kinds tokens.now)) }
+        ensures placed { IfOk result (λ r. IsBlockPlaced self.now.all.now r.value.items
+            (token.Punctuation punctuation.CloseBrace ∷ kinds r.rest.now)) }
     {
         let opened = expect(Punctuation::OpenBrace, tokens)?;
         self.statements(opened)
     }
 
     /// An initialisation: after the keyword.
-    #[tactic(auto, unfolding(strc_grammar::specs::Streams::init))]
-    fn init<'t>(&self, tokens: &'t [Token]) -> Result<Parsed<'t, Member>, ReadError>
+    #[tactic(auto, unfolding(strc_grammar::specs::Streams::init), using(crate::proofs::Placed::init_placed))]
+    fn init(&self, tokens: &'t [Token]) -> Result<Parsed<'t, Member>, ReadError>
         requires deep { 0 < self.now.depth }
-        requires reads { ReadsStatements (self.now.depth - 1)
+        requires reads { ReadsStatements self.now.all.now (self.now.depth - 1)
             (F.pre self.now.reader) (F.post self.now.reader) }
-        ensures { Gives (parsed member_view) result
+        ensures gives { Gives (parsed member_view) result
             (spec.init (spec.statement (self.now.depth - 1)) (kinds tokens.now)) }
+        ensures placed { IfOk result (λ r.
+            IsMemberPlaced self.now.all.now r.value (kinds r.rest.now)) }
     {
         let block = self.braced(tokens)?;
         Ok(Parsed::new(init_of(block.value), block.height, block.rest))
@@ -132,29 +146,34 @@ impl<F: Fn(Global, usize, &[Token]) -> Result<Parsed<'_, Stmt>, ReadError>> Stat
 
     /// Rates and a block.
     #[tactic(auto, unfolding(strc_grammar::specs::Streams::phase))]
-    fn phase<'t>(
+    fn phase(
         &self,
         tokens: &'t [Token],
     ) -> Result<Parsed<'t, (Vec<RateTree>, Vec<Stmt>)>, ReadError>
         requires deep { 0 < self.now.depth }
-        requires reads { ReadsStatements (self.now.depth - 1)
+        requires reads { ReadsStatements self.now.all.now (self.now.depth - 1)
             (F.pre self.now.reader) (F.post self.now.reader) }
-        ensures { Gives (parsed phase_view) result
+        ensures gives { Gives (parsed phase_view) result
             (spec.phase (self.now.depth - 1) (spec.statement (self.now.depth - 1))
             (kinds tokens.now)) }
+        ensures placed { IfOk result (λ r. IsBlockPlaced self.now.all.now r.value.1.items
+            (token.Punctuation punctuation.CloseBrace ∷ kinds r.rest.now)) }
     {
         let read = rates(self.alloc, self.depth - 1, tokens)?;
         both(read.value, read.height, self.braced(read.rest))
     }
 
     /// `prework`: after the keyword.
-    fn prework<'t>(&self, tokens: &'t [Token]) -> Result<Parsed<'t, Member>, ReadError>
+    #[tactic(auto, using(crate::proofs::Placed::prework_placed))]
+    fn prework(&self, tokens: &'t [Token]) -> Result<Parsed<'t, Member>, ReadError>
         requires deep { 0 < self.now.depth }
-        requires reads { ReadsStatements (self.now.depth - 1)
+        requires reads { ReadsStatements self.now.all.now (self.now.depth - 1)
             (F.pre self.now.reader) (F.post self.now.reader) }
-        ensures { Gives (parsed member_view) result
+        ensures gives { Gives (parsed member_view) result
             (parts.prework (self.now.depth - 1) (spec.statement (self.now.depth - 1))
             (kinds tokens.now)) }
+        ensures placed { IfOk result (λ r.
+            IsMemberPlaced self.now.all.now r.value (kinds r.rest.now)) }
     {
         let phase = self.phase(tokens)?;
         let (rates, block) = phase.value;
@@ -162,13 +181,16 @@ impl<F: Fn(Global, usize, &[Token]) -> Result<Parsed<'_, Stmt>, ReadError>> Stat
     }
 
     /// `work`: after the keyword.
-    fn work<'t>(&self, tokens: &'t [Token]) -> Result<Parsed<'t, Member>, ReadError>
+    #[tactic(auto, using(crate::proofs::Placed::work_placed))]
+    fn work(&self, tokens: &'t [Token]) -> Result<Parsed<'t, Member>, ReadError>
         requires deep { 0 < self.now.depth }
-        requires reads { ReadsStatements (self.now.depth - 1)
+        requires reads { ReadsStatements self.now.all.now (self.now.depth - 1)
             (F.pre self.now.reader) (F.post self.now.reader) }
-        ensures { Gives (parsed member_view) result
+        ensures gives { Gives (parsed member_view) result
             (parts.work (self.now.depth - 1) (spec.statement (self.now.depth - 1))
             (kinds tokens.now)) }
+        ensures placed { IfOk result (λ r.
+            IsMemberPlaced self.now.all.now r.value (kinds r.rest.now)) }
     {
         let phase = self.phase(tokens)?;
         let (rates, block) = phase.value;
@@ -176,17 +198,19 @@ impl<F: Fn(Global, usize, &[Token]) -> Result<Parsed<'_, Stmt>, ReadError>> Stat
     }
 
     /// A helper function: after its type.
-    #[tactic(auto, unfolding(strc_grammar::specs::Streams::helper_function))]
-    fn helper_function<'t>(
+    #[tactic(auto, unfolding(strc_grammar::specs::Streams::helper_function), using(crate::proofs::Placed::helper_placed))]
+    fn helper_function(
         &self,
         kind: HelperType,
         tokens: &'t [Token],
     ) -> Result<Parsed<'t, Member>, ReadError>
         requires deep { 0 < self.now.depth }
-        requires reads { ReadsStatements (self.now.depth - 1)
+        requires reads { ReadsStatements self.now.all.now (self.now.depth - 1)
             (F.pre self.now.reader) (F.post self.now.reader) }
-        ensures { Gives (parsed member_view) result
+        ensures gives { Gives (parsed member_view) result
             (spec.helper_function (spec.statement (self.now.depth - 1)) kind (kinds tokens.now)) }
+        ensures placed { IfOk result (λ r.
+            IsMemberPlaced self.now.all.now r.value (kinds r.rest.now)) }
     {
         let (name, rest) = name(tokens)?;
         let (name, rest) = before(Punctuation::OpenParen, name, rest)?;
@@ -200,17 +224,19 @@ impl<F: Fn(Global, usize, &[Token]) -> Result<Parsed<'_, Stmt>, ReadError>> Stat
 
     /// Fields or a helper function of this type: at the type's keyword.
     #[tactic(auto, unfolding(strc_grammar::specs::Streams::typed_member))]
-    fn typed_member<'t>(
+    fn typed_member(
         &self,
         kind: HelperType,
         tokens: &'t [Token],
     ) -> Result<Parsed<'t, Member>, ReadError>
         requires deep { 0 < self.now.depth }
-        requires reads { ReadsStatements (self.now.depth - 1)
+        requires reads { ReadsStatements self.now.all.now (self.now.depth - 1)
             (F.pre self.now.reader) (F.post self.now.reader) }
-        ensures { Gives (parsed member_view) result
+        ensures gives { Gives (parsed member_view) result
             (spec.typed_member (self.now.depth - 1) (spec.statement (self.now.depth - 1)) kind
             (kinds tokens.now)) }
+        ensures placed { IfOk result (λ r.
+            IsMemberPlaced self.now.all.now r.value (kinds r.rest.now)) }
     {
         if is_heading(tail(tokens)) {
             self.helper_function(kind, tail(tokens))
@@ -220,13 +246,15 @@ impl<F: Fn(Global, usize, &[Token]) -> Result<Parsed<'_, Stmt>, ReadError>> Stat
     }
 
     #[tactic(auto, unfolding(strc_grammar::specs::Streams::member))]
-    fn member<'t>(&self, tokens: &'t [Token]) -> Result<Parsed<'t, Member>, ReadError>
+    fn member(&self, tokens: &'t [Token]) -> Result<Parsed<'t, Member>, ReadError>
         requires deep { 0 < self.now.depth }
-        requires reads { ReadsStatements (self.now.depth - 1)
+        requires reads { ReadsStatements self.now.all.now (self.now.depth - 1)
             (F.pre self.now.reader) (F.post self.now.reader) }
-        ensures { Gives (parsed member_view) result
+        ensures gives { Gives (parsed member_view) result
             (spec.member (self.now.depth - 1) (spec.statement (self.now.depth - 1))
             (kinds tokens.now)) }
+        ensures placed { IfOk result (λ r.
+            IsMemberPlaced self.now.all.now r.value (kinds r.rest.now)) }
     {
         match peek(tokens) {
             Some(TokenKind::Keyword(Keyword::Boolean)) => {
@@ -245,16 +273,15 @@ impl<F: Fn(Global, usize, &[Token]) -> Result<Parsed<'_, Stmt>, ReadError>> Stat
 
     /// The members of a filter, up to the brace that closes it.
     #[tactic(auto, unfolding(strc_grammar::specs::Streams::members))]
-    pub(crate) fn members<'t>(
-        &self,
-        tokens: &'t [Token],
-    ) -> Result<Parsed<'t, Vec<Member>>, ReadError>
+    pub(crate) fn members(&self, tokens: &'t [Token]) -> Result<Parsed<'t, Vec<Member>>, ReadError>
         requires deep { 0 < self.now.depth }
-        requires reads { ReadsStatements (self.now.depth - 1)
+        requires reads { ReadsStatements self.now.all.now (self.now.depth - 1)
             (F.pre self.now.reader) (F.post self.now.reader) }
-        ensures { Gives (parsed_all member_view) result
+        ensures gives { Gives (parsed_all member_view) result
             (spec.members (self.now.depth - 1) (spec.statement (self.now.depth - 1))
             (kinds tokens.entry.now)) }
+        ensures placed { IfOk result (λ r. ArePartsPlaced self.now.all.now r.value.items
+            (token.Punctuation punctuation.CloseBrace ∷ kinds r.rest.now)) }
     {
         let mut read = Parsed::new(Vec::new(self.alloc), 0, tokens);
         while !is_punctuation(Punctuation::CloseBrace, read.rest) {

@@ -6,6 +6,7 @@ ghost use Rattle.strc_syntax.specs.View.{program_view};
 ghost use Rattle.strc_grammar.specs.Grammar.{kinds, height_limit, Parses, Refuses, IsFound};
 ghost use Rattle.strc_grammar.specs.Streams as spec;
 ghost use Rattle.strc_grammar.specs.Reading.{Gives};
+ghost use Rattle.strc_parse.specs.Placed.{IsProgramPlaced};
 
 use crate::declaration::declarations;
 use std::alloc::Global;
@@ -14,7 +15,8 @@ use strc_lex::token::Token;
 use strc_syntax::tree::Program;
 
 fn program(alloc: Global, tokens: &[Token]) -> Result<Program, ReadError>
-    ensures { Gives program_view result (spec.program height_limit (kinds tokens.now)) }
+    ensures gives { Gives program_view result (spec.program height_limit (kinds tokens.now)) }
+    ensures placed { IfOk result (IsProgramPlaced tokens.now) }
 {
     let declarations = declarations(alloc, tokens)?;
     Ok(Program { declarations })
@@ -27,6 +29,8 @@ fn program(alloc: Global, tokens: &[Token]) -> Result<Program, ReadError>
 pub fn parse(alloc: Global, tokens: &[Token]) -> Result<Program, ParseError>
     // What is read is a well-shaped program, and these are its tokens.
     ensures ok { IfOk result (λ p. Parses (kinds tokens.now) (program_view p)) }
+    // Each statement is at the place of the tokens that spell it.
+    ensures placed { IfOk result (IsProgramPlaced tokens.now) }
     // What a refusal says is so.
     ensures refused { IfErr result (λ e. Refuses (kinds tokens.now) e) }
     // A program whose tokens these are is read, unless memory runs out.

@@ -1,6 +1,8 @@
 // Statements without others in them, and their parts.
 
-ghost use Rattle.std.specs.Prelude.{◌≡◌, ◌-◌, ◌<◌};
+ghost use Rattle.std.specs.Prelude.{◌≡◌, ◌∷◌, ◌-◌, ◌<◌, IfOk};
+ghost use Rattle.strc_lex.specs.declared.token.TokenKind.TheVariants as token;
+ghost use Rattle.strc_lex.specs.declared.token.Punctuation.TheVariants as punctuation;
 ghost use Rattle.strc_syntax.specs.View.{expr_view, stmt_view};
 ghost use Rattle.strc_grammar.specs.Grammar.{kinds};
 ghost use Rattle.std.specs.Option.{option_map};
@@ -8,6 +10,7 @@ ghost use Rattle.strc_grammar.specs.Seen.{parsed};
 ghost use Rattle.strc_parse.specs.Seen.{heading_view, after_first_view};
 ghost use Rattle.strc_grammar.specs.Reading as spec;
 ghost use Rattle.strc_grammar.specs.Reading.{Gives};
+ghost use Rattle.strc_parse.specs.Placed.{IsHeadingPlaced, IsPlain, IsStepPlaced};
 
 use crate::kept::{both, node_of, with_mark, with_node_height};
 use crate::place::placed;
@@ -28,7 +31,8 @@ use strc_syntax::tree::{AssignOperator, Expr, Stmt};
 #[tactic(auto, unfolding(strc_grammar::specs::Reading::declare))]
 fn declare(alloc: Global, depth: usize, tokens: &[Token]) -> Result<Parsed<'_, Stmt>, ReadError>
     requires { 0 < depth }
-    ensures { Gives (parsed stmt_view) result (spec.declare depth (kinds tokens.now)) }
+    ensures gives { Gives (parsed stmt_view) result (spec.declare depth (kinds tokens.now)) }
+    ensures plain { IfOk result (λ r. IsPlain r.value) }
 {
     let declared = declared(alloc, depth - 1, tokens);
     node_of(with_node_height(depth, declared), Stmt::Declare)
@@ -42,8 +46,9 @@ fn evaluate<'t>(
     height: usize,
     tokens: &'t [Token],
 ) -> Result<Parsed<'t, Stmt>, ReadError>
-    ensures { Gives (parsed stmt_view) result
+    ensures gives { Gives (parsed stmt_view) result
         (spec.evaluate depth (expr_view value) height (kinds tokens.now)) }
+    ensures plain { IfOk result (λ r. IsPlain r.value) }
 {
     let (value, height) = raise(depth, value, height)?;
     Ok(Parsed::new(Stmt::Evaluate(value), height, tokens))
@@ -59,8 +64,9 @@ fn assign_to<'t>(
     tokens: &'t [Token],
 ) -> Result<Parsed<'t, Stmt>, ReadError>
     requires { 0 < depth }
-    ensures { Gives (parsed stmt_view) result
+    ensures gives { Gives (parsed stmt_view) result
         (spec.assign_to depth name operator (kinds tokens.now)) }
+    ensures plain { IfOk result (λ r. IsPlain r.value) }
 {
     let value = expression(alloc, depth - 1, LOWEST_PRECEDENCE, tokens)?;
     let height = raised(depth, value.height)?;
@@ -83,9 +89,10 @@ fn assign_element<'t>(
     tokens: &'t [Token],
 ) -> Result<Parsed<'t, Stmt>, ReadError>
     requires { 0 < depth }
-    ensures { Gives (parsed stmt_view) result
+    ensures gives { Gives (parsed stmt_view) result
         (spec.assign_element depth name (expr_view index) element_height operator
         (kinds tokens.now)) }
+    ensures plain { IfOk result (λ r. IsPlain r.value) }
 {
     let value = expression(alloc, depth - 1, LOWEST_PRECEDENCE, tokens)?;
     let height = raised(depth, element_height.max(value.height))?;
@@ -108,8 +115,9 @@ fn assignment<'t>(
     tokens: &'t [Token],
 ) -> Result<Parsed<'t, Stmt>, ReadError>
     requires { 0 < depth }
-    ensures { Gives (parsed stmt_view) result
+    ensures gives { Gives (parsed stmt_view) result
         (spec.assignment depth (expr_view value) height operator (kinds tokens.now)) }
+    ensures plain { IfOk result (λ r. IsPlain r.value) }
 {
     // Its parts are taken out of it, as a value with a drop of its own isn't taken apart.
     match &mut value {
@@ -135,8 +143,9 @@ fn after_value<'t>(
     tokens: &'t [Token],
 ) -> Result<Parsed<'t, Stmt>, ReadError>
     requires { 0 < depth }
-    ensures { Gives (parsed stmt_view) result
+    ensures gives { Gives (parsed stmt_view) result
         (spec.after_value depth (expr_view value) height (kinds tokens.now)) }
+    ensures plain { IfOk result (λ r. IsPlain r.value) }
 {
     match assign_at(tokens) {
         None => evaluate(depth, value, height, tokens),
@@ -148,7 +157,8 @@ fn after_value<'t>(
 #[tactic(auto, unfolding(strc_grammar::specs::Reading::simple))]
 fn simple(alloc: Global, depth: usize, tokens: &[Token]) -> Result<Parsed<'_, Stmt>, ReadError>
     requires { 0 < depth }
-    ensures { Gives (parsed stmt_view) result (spec.simple depth (kinds tokens.now)) }
+    ensures gives { Gives (parsed stmt_view) result (spec.simple depth (kinds tokens.now)) }
+    ensures plain { IfOk result (λ r. IsPlain r.value) }
 {
     let read = expression(alloc, depth - 1, LOWEST_PRECEDENCE, tokens)?;
     after_value(alloc, depth, read.value, read.height, read.rest)
@@ -163,7 +173,8 @@ fn optional(
     tokens: &[Token],
 ) -> Result<Parsed<'_, Stmt>, ReadError>
     requires { 0 < depth }
-    ensures { Gives (parsed stmt_view) result (spec.optional depth end (kinds tokens.now)) }
+    ensures gives { Gives (parsed stmt_view) result (spec.optional depth end (kinds tokens.now)) }
+    ensures plain { IfOk result (λ r. IsPlain r.value) }
 {
     if is_punctuation(end, tokens) {
         Ok(Parsed::new(Stmt::Empty, 1, tokens))
@@ -176,7 +187,8 @@ fn optional(
 #[tactic(auto, unfolding(strc_grammar::specs::Reading::part))]
 fn part(alloc: Global, depth: usize, tokens: &[Token]) -> Result<Parsed<'_, Stmt>, ReadError>
     requires { 0 < depth }
-    ensures { Gives (parsed stmt_view) result (spec.part depth (kinds tokens.now)) }
+    ensures gives { Gives (parsed stmt_view) result (spec.part depth (kinds tokens.now)) }
+    ensures plain { IfOk result (λ r. IsPlain r.value) }
 {
     match peek(tokens) {
         Some(TokenKind::Keyword(Keyword::Boolean)) => declare(alloc, depth, tokens),
@@ -193,7 +205,8 @@ pub(crate) fn ended(
     tokens: &[Token],
 ) -> Result<Parsed<'_, Stmt>, ReadError>
     requires { 0 < depth }
-    ensures { Gives (parsed stmt_view) result (spec.ended depth (kinds tokens.now)) }
+    ensures gives { Gives (parsed stmt_view) result (spec.ended depth (kinds tokens.now)) }
+    ensures plain { IfOk result (λ r. IsPlain r.value) }
 {
     with_mark(Punctuation::Semicolon, part(alloc, depth, tokens))
 }
@@ -251,7 +264,8 @@ pub(crate) fn return_value(
     tokens: &[Token],
 ) -> Result<Parsed<'_, Stmt>, ReadError>
     requires { 0 < depth }
-    ensures { Gives (parsed stmt_view) result (spec.return_value depth (kinds tokens.now)) }
+    ensures gives { Gives (parsed stmt_view) result (spec.return_value depth (kinds tokens.now)) }
+    ensures plain { IfOk result (λ r. IsPlain r.value) }
 {
     let value = optional_value(alloc, depth - 1, tokens);
     node_of(with_node_height(depth, value), Stmt::Return)
@@ -259,26 +273,41 @@ pub(crate) fn return_value(
 
 /// The step of a `for`, and the bracket after it.
 #[tactic(auto, unfolding(strc_grammar::specs::Reading::last_part))]
-fn last_part(alloc: Global, depth: usize, tokens: &[Token]) -> Result<Parsed<'_, Stmt>, ReadError>
+fn last_part<'t>(
+    alloc: Global,
+    all: &'t [Token],
+    depth: usize,
+    tokens: &'t [Token],
+) -> Result<Parsed<'t, Stmt>, ReadError>
     requires { 0 < depth }
-    ensures { Gives (parsed stmt_view) result (spec.last_part depth (kinds tokens.now)) }
+    ensures gives { Gives (parsed stmt_view) result (spec.last_part depth (kinds tokens.now)) }
+    ensures placed { IfOk result (λ r. IsStepPlaced all.now r.value
+        (token.Punctuation punctuation.CloseParen ∷ kinds r.rest.now)) }
 {
     let read = optional(alloc, depth, Punctuation::CloseParen, tokens)?;
-    with_mark(Punctuation::CloseParen, placed(alloc, tokens, read))
+    with_mark(Punctuation::CloseParen, placed(alloc, all, tokens, read))
 }
 
 /// `condition; step)`, and the height of the higher.
 #[tactic(auto, unfolding(strc_grammar::specs::Reading::after_first))]
-fn after_first(
+fn after_first<'t>(
     alloc: Global,
+    all: &'t [Token],
     depth: usize,
-    tokens: &[Token],
-) -> Result<Parsed<'_, (Option<Expr>, Stmt)>, ReadError>
+    tokens: &'t [Token],
+) -> Result<Parsed<'t, (Option<Expr>, Stmt)>, ReadError>
     requires { 0 < depth }
-    ensures { Gives (parsed after_first_view) result (spec.after_first depth (kinds tokens.now)) }
+    ensures gives { Gives (parsed after_first_view) result
+        (spec.after_first depth (kinds tokens.now)) }
+    ensures placed { IfOk result (λ r. IsStepPlaced all.now r.value.1
+        (token.Punctuation punctuation.CloseParen ∷ kinds r.rest.now)) }
 {
     let read = optional_value(alloc, depth, tokens)?;
-    both(read.value, read.height, last_part(alloc, depth, read.rest))
+    both(
+        read.value,
+        read.height,
+        last_part(alloc, all, depth, read.rest),
+    )
 }
 
 /// What is in the brackets of a `for`: the first part, and the condition with the step.
@@ -286,20 +315,22 @@ pub(crate) type ForHeading = (Stmt, (Option<Expr>, Stmt));
 
 /// `(first; condition; step)`, and the height of the highest.
 #[tactic(auto, unfolding(strc_grammar::specs::Reading::for_heading))]
-pub(crate) fn for_heading(
+pub(crate) fn for_heading<'t>(
     alloc: Global,
+    all: &'t [Token],
     depth: usize,
-    tokens: &[Token],
-) -> Result<Parsed<'_, ForHeading>, ReadError>
+    tokens: &'t [Token],
+) -> Result<Parsed<'t, ForHeading>, ReadError>
     requires { 0 < depth }
-    ensures { Gives (parsed heading_view) result (spec.for_heading depth (kinds tokens.now)) }
+    ensures gives { Gives (parsed heading_view) result (spec.for_heading depth (kinds tokens.now)) }
+    ensures placed { IfOk result (λ r. IsHeadingPlaced all.now r.value (kinds r.rest.now)) }
 {
     let opened = expect(Punctuation::OpenParen, tokens)?;
     let read = ended(alloc, depth, opened)?;
-    let read = placed(alloc, opened, read)?;
+    let read = placed(alloc, all, opened, read)?;
     both(
         read.value,
         read.height,
-        after_first(alloc, depth, read.rest),
+        after_first(alloc, all, depth, read.rest),
     )
 }

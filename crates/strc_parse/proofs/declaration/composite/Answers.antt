@@ -3,6 +3,6 @@ use Rattle.strc_syntax.proofs.Views.{row_of_views}
 use Rattle.strc_grammar.specs.Streams.{composite}
 use Rattle.strc_parse.proofs.declaration.composite.Goals as goal
 
-pub returns : goal.returns
+pub returns-clause-gives : goal.returns-clause-gives
 unfolding composite
-returns c = grind (arith, row_of_views)
+returns-clause-gives c = grind (arith, row_of_views)
