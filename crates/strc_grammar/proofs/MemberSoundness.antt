@@ -80,6 +80,23 @@ kind_is kind (token.Keyword keyword.Peek ∷ rest) e = let same : rate.Peek ≡ 
     ap (λ (k : RateKind). rate_keyword k ∷ rest) same
 kind_is kind _ e = absurd cc
 
+-- the tokens of a rate that was read spell it
+pub rate_is_spelled : (limit : ℕ) (kind : RateKind) (so_far : List tree.Rate)
+    (tokens : List TokenKind) (value : tree.Expr) (height : ℕ) (after : List TokenKind)
+    → rate_kind tokens ≡ Some kind → rate_of limit kind so_far tokens ≡ Ok (value, height, after)
+    → tokens ≡ rate_spelled (record { kind = kind; rate = value }) after
+unfolding rate_of
+rate_is_spelled limit kind so_far tokens value height after starts is =
+    elim (cases_Bool (has_rate kind so_far)) [
+      | inl has ↦ let refused = rw has at is in absurd cc
+      | inr fresh ↦
+          let read = Sound-ok (ExprRead limit lowest_precedence (tail tokens)) limit (tail tokens)
+          (expression limit lowest_precedence (tail tokens)) (value, height, after)
+          (rw fresh at is) (expression_soundness limit lowest_precedence (tail tokens)) in
+          kind_is kind tokens starts
+          ∙ ap (λ (ts : List TokenKind). rate_keyword kind ∷ ts) read.spelled
+    ]
+
 -- the rates so far, the height of the highest, and where the next one begins
 record RatesRead (limit : ℕ) (all : List TokenKind) (so_far : List tree.Rate × ℕ)
     (rest : List TokenKind) : Type 0 where

@@ -1,7 +1,7 @@
 -- Statements that were read are at the places of the tokens that spell them.
 use Rattle.std.proofs.Common.{◌≡◌, ℕ, ◌-◌, ◌+◌, List, [], ◌∷◌, ◌++◌, length, map, Ok, Result, refl}
 use Rattle.std.proofs.lemmas.Bool.{eqb-true}
-use Rattle.std.proofs.Common.{◌<◌, eqb, true, ap, sym, subst, ◌∙◌, Option, suc, IfOk, Err, inl, inr, arith}
+use Rattle.std.proofs.Common.{Some, ◌<◌, eqb, true, ap, sym, subst, ◌∙◌, Option, suc, IfOk, Err, inl, inr, arith}
 use Rattle.std.specs.Option.{option_map}
 use Rattle.std.specs.Global.{Vec}
 use mathlib.Core.Former.{Count}
@@ -29,6 +29,13 @@ use Rattle.strc_syntax.specs.declared.tree.Member.{Member}
 use Rattle.strc_syntax.specs.declared.tree.Member.TheVariants as member
 use Rattle.strc_syntax.specs.declared.tree.RateTree.{RateTree}
 use Rattle.strc_syntax.specs.declared.tree.StreamType.{StreamType}
+use Rattle.strc_syntax.specs.declared.tree.Variables.{Variables}
+use Rattle.strc_syntax.specs.Tree.{row}
+use Rattle.strc_syntax.specs.View.{rate_view, type_view, variable_view}
+use Rattle.strc_syntax.proofs.Views.{row_of_views}
+use Rattle.strc_grammar.specs.Grammar.{block_spelled, rate_spelled}
+use Rattle.strc_grammar.specs.Reading.{declared}
+use Rattle.strc_grammar.specs.Streams.{rate_kind, rate_of}
 use Rattle.strc_syntax.specs.Made.{IsForOf, IsIfElseOf, IsIfOf, IsWhileOf}
 use Rattle.strc_syntax.specs.Tree as tree
 use Rattle.strc_syntax.specs.View.{stmt_view, row_view, block_view, IsPlacedAt}
@@ -38,7 +45,7 @@ use Rattle.strc_grammar.specs.Grammar.{members_spelled, row_spelled, stmt_spelle
 use Rattle.strc_grammar.proofs.Soundness.{each_spelled-push}
 use Rattle.std.proofs.lemmas.List.{length-map, map_push}
 use Rattle.std.specs.Borrow.{Bor}
-use Rattle.strc_grammar.specs.Seen.{parsed}
+use Rattle.strc_grammar.specs.Seen.{declared_view, parsed}
 use Rattle.strc_grammar.specs.Streams.{statement}
 use Rattle.strc_grammar.specs.Streams as streams
 use Rattle.strc_grammar.specs.declared.parsed.Parsed.{Parsed}
@@ -48,7 +55,9 @@ use Rattle.strc_grammar.specs.Reading.{Gives, after_first, ended, expect, is_key
 use Rattle.strc_grammar.specs.declared.error.ReadError.{ReadError}
 use Rattle.strc_grammar.proofs.SimpleSoundness.{EndedRead, after_first_is_spelled, ended_soundness}
 use Rattle.strc_grammar.proofs.SimpleSoundness.{step_is_spelled}
-use Rattle.strc_grammar.proofs.MemberSoundness.{member_is_spelled}
+use Rattle.strc_grammar.proofs.MemberSoundness.{BlockRead, braced_soundness, member_is_spelled}
+use Rattle.strc_grammar.proofs.MemberSoundness.{rate_is_spelled}
+use Rattle.strc_grammar.proofs.SimpleSoundness.{DeclaredRead, declared_soundness}
 use Rattle.strc_grammar.proofs.Soundness.{Sound-ok, expect_cases}
 use Rattle.strc_grammar.proofs.StatementSoundness.{StmtRead, keyword_is}
 use Rattle.strc_grammar.proofs.TreeSoundness.{statement_soundness}
@@ -56,7 +65,8 @@ use Rattle.strc_parse.specs.Placed.{IsAt, IsBlockPlaced, IsPlaced, IsPlacedWithi
 use Rattle.strc_parse.specs.Placed.{spelled_place, AreMembersPlaced, ArePartsPlaced, IsFrom}
 use Rattle.strc_parse.specs.Placed.{IsPlain, IsReadAt, IsStepPlaced, place_between}
 use Rattle.strc_parse.specs.Kept.{IsBoth, IsFollowed, IsGrown}
-use Rattle.strc_parse.specs.Seen.{after_first_view}
+use Rattle.strc_parse.specs.Placed.{AreFieldsPlaced, AreRatesPlaced, IsPhasePlaced, IsRatePlaced}
+use Rattle.strc_parse.specs.Seen.{after_first_view, block_view as seen_block}
 use Rattle.strc_parse.specs.Placed.{AreStreamsPlaced, IsChildPlaced, IsHeadingPlaced}
 use Rattle.strc_parse.specs.Placed.{IsMemberPlaced, IsStreamPlaced}
 
@@ -82,6 +92,14 @@ placed_is all place read placed rest is spelled within =
 length_of_kinds : (tokens : List Token) → length (kinds tokens) ≡ length tokens
 length_of_kinds tokens = length-map tokens (λ (t : Token). t.kind)
 
+-- the place of these tokens up to the rest of them, which spells what they begin with
+between_is : (all tokens rest : List Token) (spelled : List TokenKind) → kinds tokens ≡ spelled
+    → place_between all (length tokens) (length rest) ≡ spelled_place all spelled (kinds rest)
+between_is all tokens rest spelled is =
+    ap (λ (from : ℕ). place_between all from (length rest))
+    (sym (length_of_kinds tokens) ∙ ap (λ (ts : List TokenKind). length ts) is)
+    ∙ ap (place_between all (length spelled)) (sym (length_of_kinds rest))
+
 -- what these tokens spell, once it has its place
 at_place : (all tokens : List Token) (read placed : Parsed Stmt)
     → kinds tokens ≡ stmt_spelled (stmt_view read.value) (kinds read.rest.now)
@@ -89,13 +107,7 @@ at_place : (all tokens : List Token) (read placed : Parsed Stmt)
     → parsed stmt_view placed ≡ parsed stmt_view read → IsFrom all (length tokens) read placed
     → IsReadAt all tokens placed
 at_place all tokens read placed spelled within same is =
-    let place : place_between all (length tokens) (length read.rest.now)
-    ≡ spelled_place all (stmt_spelled (stmt_view read.value) (kinds read.rest.now))
-    (kinds read.rest.now) =
-    ap (λ (from : ℕ). place_between all from (length read.rest.now))
-    (sym (length_of_kinds tokens) ∙ ap (λ (ts : List TokenKind). length ts) spelled)
-    ∙ ap (place_between all (length (stmt_spelled (stmt_view read.value) (kinds read.rest.now))))
-    (sym (length_of_kinds read.rest.now)) in
+    let place = between_is all tokens read.rest.now _ spelled in
     record {
       spelled = spelled ∙ ap (λ (x : tree.Stmt × ℕ × List TokenKind). stmt_spelled x.0 x.2)
           (sym same);
@@ -187,13 +199,7 @@ step_read d all tokens read placed x reads is followed =
     ≡ token.Punctuation punctuation.CloseParen ∷ kinds x.rest.now =
     ap (λ (rest : Bor (List Token)). kinds rest.now) (sym from.0)
     ∙ expect_is punctuation.CloseParen _ _ followed.1 in
-    let place : place_between all (length tokens) (length read.rest.now)
-    ≡ spelled_place all (part_spelled (stmt_view read.value) (kinds read.rest.now))
-    (kinds read.rest.now) =
-    ap (λ (from : ℕ). place_between all from (length read.rest.now))
-    (sym (length_of_kinds tokens) ∙ ap (λ (ts : List TokenKind). length ts) spelled)
-    ∙ ap (place_between all (length (part_spelled (stmt_view read.value) (kinds read.rest.now))))
-    (sym (length_of_kinds read.rest.now)) in
+    let place = between_is all tokens read.rest.now _ spelled in
     subst (λ (rest : List TokenKind). IsStepPlaced all x.value rest) closed
     (step_is all _ read.value x.value (kinds read.rest.now) from.1 place)
 
@@ -354,6 +360,120 @@ module _ (all : List Token) (rest : List TokenKind) where
       heading placed = rw (is.0, is.1, is.2, is.3) (heading.0, heading.1, placed)
   for_within first condition step body _ is heading placed = absurd is
 
+-- ---- rates and fields
+
+-- rates before a block
+rates_before : (all : List Token) (rates : List RateTree) (body : Vec Stmt)
+    (rest : List TokenKind)
+    → AreRatesPlaced all rates (block_spelled (row (map stmt_view body.items)) rest)
+    → AreRatesPlaced all rates (block_spelled (row_view (kept_row (Block body)).1) rest)
+rates_before all rates body rest placed =
+    let kept = kept_row (Block body) in
+    let same : row_view kept.1 ≡ row (map stmt_view body.items) =
+    row_view_is kept.0 kept.1 ∙ ap block_view (items_hidden-the_row-Stmt-1 body)
+    ∙ row_of_views body.items in
+    subst (λ (block : tree.Stmts). AreRatesPlaced all rates (block_spelled block rest)) (sym same)
+    placed
+
+-- one more rate
+rates_push : (all : List Token) (items : List RateTree) (last : RateTree) (rest : List TokenKind)
+    → AreRatesPlaced all items (rate_spelled (rate_view last) rest) → IsRatePlaced all last rest
+    → AreRatesPlaced all (items ++ last ∷ []) rest
+rates_push all [] last rest placed is = (is, tt)
+rates_push all (first ∷ others) last rest placed is = (
+  subst (λ (ts : List TokenKind). IsRatePlaced all first ts)
+      (sym (each_spelled-push rate_spelled (map rate_view others) (rate_view last) rest)
+      ∙ sym (ap (λ (views : List tree.Rate). each_spelled rate_spelled views rest)
+      (map_push rate_view others last))) placed.0,
+  rates_push all others last rest placed.1 is,
+)
+
+pub rates_grown : (limit : ℕ) (all tokens rest : List Token) (found : List RateTree)
+    (last : RateTree) (height : ℕ)
+    → last.place ≡ place_between all (length tokens) (length rest)
+    → rate_kind (kinds tokens) ≡ Some last.kind
+    → rate_of limit last.kind (map rate_view found) (kinds tokens)
+    ≡ Ok (expr_view last.rate, height, kinds rest)
+    → AreRatesPlaced all found (kinds tokens)
+    → AreRatesPlaced all (found ++ last ∷ []) (kinds rest)
+rates_grown limit all tokens rest found last height place starts read placed =
+    let spelled = rate_is_spelled limit last.kind (map rate_view found) (kinds tokens)
+    (expr_view last.rate) height (kinds rest) starts read in
+    rates_push all found last (kinds rest)
+    (subst (λ (ts : List TokenKind). AreRatesPlaced all found ts) spelled placed)
+    (place ∙ between_is all tokens rest _ spelled)
+
+-- rates, and the block after them
+pub phase_placed : (d : ℕ) (all : List Token) (rates : Parsed (Vec RateTree))
+    (second : Result (Parsed (Vec Stmt)) ReadError)
+    (result : Result (Parsed (Vec RateTree × Vec Stmt)) ReadError)
+    → AreRatesPlaced all rates.value.items (kinds rates.rest.now)
+    → IsBoth rates.value rates.height second result
+    → Gives (parsed seen_block) second (streams.braced (statement d) (kinds rates.rest.now))
+    → IfOk second (λ r. IsBlockPlaced all r.value.items
+    (token.Punctuation punctuation.CloseBrace ∷ kinds r.rest.now))
+    → IfOk result (λ r. IsPhasePlaced all r.value (kinds r.rest.now))
+phase_placed d all rates second (Ok x) placed both gives block =
+    let gave = subst (λ (r : Result (Parsed (Vec Stmt)) ReadError).
+    Gives (parsed seen_block) r (streams.braced (statement d) (kinds rates.rest.now))) both.3 gives
+    in
+    let spelled = (Sound-ok (BlockRead d (kinds rates.rest.now)) (d - 1) (kinds rates.rest.now)
+    (streams.braced (statement d) (kinds rates.rest.now)) _ gave
+    (braced_soundness d (statement d) (λ ts. statement_soundness d ts)
+    (kinds rates.rest.now))).spelled in (
+      subst (λ (found : Vec RateTree). AreRatesPlaced all found.items
+          (block_spelled (row (map stmt_view x.value.1.items)) (kinds x.rest.now))) (sym both.1)
+          (subst (λ (ts : List TokenKind). AreRatesPlaced all rates.value.items ts) spelled placed),
+      subst (λ (r : Result (Parsed (Vec Stmt)) ReadError). IfOk r (λ r.
+          IsBlockPlaced all r.value.items
+          (token.Punctuation punctuation.CloseBrace ∷ kinds r.rest.now))) both.3 block,
+    )
+phase_placed d all rates second (Err e) placed both gives block = tt
+
+-- fields, before the semicolon after them
+fields_placed : (limit : ℕ) (all tokens rest : List Token) (fields : Variables) (height : ℕ)
+    (after : List TokenKind)
+    → fields.place ≡ place_between all (length tokens) (length rest)
+    → declared limit (kinds tokens) ≡ Ok (
+      (
+        type_view fields.kind,
+        map variable_view fields.variables.items,
+      ),
+      height,
+      kinds rest,
+    )
+    → expect punctuation.Semicolon (kinds rest) ≡ Ok after
+    → AreFieldsPlaced all fields (token.Punctuation punctuation.Semicolon ∷ after)
+fields_placed limit all tokens rest fields height after place read closed =
+    let spelled = (Sound-ok (DeclaredRead limit (kinds tokens)) limit (kinds tokens)
+    (declared limit (kinds tokens)) _ read (declared_soundness limit (kinds tokens))).spelled in
+    subst (λ (ts : List TokenKind). AreFieldsPlaced all fields ts)
+    (expect_is punctuation.Semicolon (kinds rest) after closed)
+    (place ∙ between_is all tokens rest _ spelled)
+
+pub fields_closed : (limit : ℕ) (all tokens : List Token) (read made : Parsed Variables)
+    (place : Span) → declared limit (kinds tokens) ≡ Ok (parsed declared_view read)
+    → place ≡ place_between all (length tokens) (length read.rest.now)
+    → IsFollowed punctuation.Semicolon (Ok read) (Ok made)
+    → AreFieldsPlaced all (record {
+      kind = made.value.kind;
+      variables = made.value.variables;
+      place = place;
+    }) (token.Punctuation punctuation.Semicolon ∷ kinds made.rest.now)
+fields_closed limit all tokens read made place reads is followed =
+    let kept : Parsed Variables =
+    record { value = made.value; height = made.height; rest = followed.0 } in
+    let same : read ≡ kept = let both = followed.2 in cc in
+    fields_placed limit all tokens followed.0.now (record {
+      kind = made.value.kind;
+      variables = made.value.variables;
+      place = place;
+    }) made.height (kinds made.rest.now)
+    (subst (λ (r : Parsed Variables).
+    place ≡ place_between all (length tokens) (length r.rest.now)) same is)
+    (subst (λ (r : Parsed Variables).
+    declared limit (kinds tokens) ≡ Ok (parsed declared_view r)) same reads) followed.1
+
 -- ---- members and children
 
 pub init_placed : (all : List Token) (rest : List TokenKind) (made : Member) (body : Vec Stmt)
@@ -365,17 +485,17 @@ init_placed all rest made body is placed =
 
 pub prework_placed : (all : List Token) (rest : List TokenKind) (made : Member)
     (rates : Vec RateTree) (body : Vec Stmt) → made ≡ member.Prework rates body
-    → IsBlockPlaced all body.items (token.Punctuation punctuation.CloseBrace ∷ rest)
-    → IsMemberPlaced all made rest
+    → IsPhasePlaced all (rates, body) rest → IsMemberPlaced all made rest
 prework_placed all rest made rates body is placed =
-    subst (λ (m : Member). IsMemberPlaced all m rest) (sym is) (row_of_block all body _ placed)
+    subst (λ (m : Member). IsMemberPlaced all m rest) (sym is)
+    (rates_before all rates.items body rest placed.0, row_of_block all body _ placed.1)
 
 pub work_placed : (all : List Token) (rest : List TokenKind) (made : Member)
     (rates : Vec RateTree) (body : Vec Stmt) → made ≡ member.Work rates body
-    → IsBlockPlaced all body.items (token.Punctuation punctuation.CloseBrace ∷ rest)
-    → IsMemberPlaced all made rest
+    → IsPhasePlaced all (rates, body) rest → IsMemberPlaced all made rest
 work_placed all rest made rates body is placed =
-    subst (λ (m : Member). IsMemberPlaced all m rest) (sym is) (row_of_block all body _ placed)
+    subst (λ (m : Member). IsMemberPlaced all m rest) (sym is)
+    (rates_before all rates.items body rest placed.0, row_of_block all body _ placed.1)
 
 pub helper_placed : (all : List Token) (rest : List TokenKind) (made : Member) (kind : HelperType)
     (name : Name) (parameters : Vec Name) (body : Vec Stmt)

@@ -1,7 +1,9 @@
--- Where statements are in a text: each is at the place of the tokens that spell it.
+-- Where statements, rates and declarations of fields are in a text: each is at the place of the
+-- tokens that spell it.
 use Rattle.std.specs.Prelude.{◌≡◌, ℕ, ◌-◌, List, [], ◌∷◌, length, drop, map, Option}
 use Rattle.std.specs.Option.{option_map}
 use Rattle.std.specs.Borrow.{Bor}
+use Rattle.std.specs.Global.{Vec}
 use Rattle.strc_base.specs.declared.place.Span.{Span}
 use Rattle.strc_lex.specs.declared.token.Token.{Token}
 use Rattle.strc_lex.specs.declared.token.TokenKind.{TokenKind}
@@ -18,14 +20,19 @@ use Rattle.strc_syntax.specs.declared.tree.Expr.{Expr}
 use Rattle.strc_syntax.specs.declared.tree.Member.{Member}
 use Rattle.strc_syntax.specs.declared.tree.Member.TheVariants as member
 use Rattle.strc_syntax.specs.declared.tree.Program.{Program}
+use Rattle.strc_syntax.specs.declared.tree.RateTree.{RateTree}
 use Rattle.strc_syntax.specs.declared.tree.Stmt.{Stmt, Row_of-Stmt, end_of-Stmt, more_of-Stmt}
 use Rattle.strc_syntax.specs.declared.tree.Stmt.TheVariants as stmt
 use Rattle.strc_syntax.specs.declared.tree.StreamTree.{StreamTree}
 use Rattle.strc_syntax.specs.declared.tree.StreamTree.TheVariants as stream
+use Rattle.strc_syntax.specs.declared.tree.Variables.{Variables}
+use Rattle.strc_syntax.specs.Tree.{row}
+use Rattle.strc_syntax.specs.View.{rate_view, type_view, variable_view}
 use Rattle.strc_syntax.specs.View.{block_view, declaration_view, expr_view, member_view}
 use Rattle.strc_syntax.specs.View.{members_view, row_view, stmt_view, IsPlacedAt}
 use Rattle.strc_grammar.specs.Grammar.{declaration_spelled, each_spelled, kinds, member_spelled}
 use Rattle.strc_grammar.specs.Grammar.{members_spelled, optional_spelled, part_spelled}
+use Rattle.strc_grammar.specs.Grammar.{block_spelled, declared_spelled, rate_spelled}
 use Rattle.strc_grammar.specs.Grammar.{row_spelled, stmt_spelled}
 use Rattle.strc_grammar.specs.Places.{before, span_of}
 use Rattle.strc_grammar.specs.declared.parsed.Parsed.{Parsed}
@@ -53,8 +60,24 @@ IsFrom all from read placed = (placed.rest ≡ read.rest)
 abbrev pub spelled_place : (all : List Token) → (spelled rest : List TokenKind) → Span
 spelled_place all spelled rest = place_between all (length spelled) (length rest)
 
+-- a rate is at its place, before these tokens
+abbrev pub IsRatePlaced : (all : List Token) → RateTree → (rest : List TokenKind) → Type 0
+IsRatePlaced all rate rest = rate.place ≡ spelled_place all (rate_spelled (rate_view rate) rest) rest
+
+-- rates one after another
+abbrev pub AreRatesPlaced : (all : List Token) → List RateTree → (rest : List TokenKind) → Type 0
+AreRatesPlaced all [] rest = Unit {0}
+AreRatesPlaced all (first ∷ others) rest =
+    IsRatePlaced all first (each_spelled rate_spelled (map rate_view others) rest)
+    × AreRatesPlaced all others rest
+
+-- a declaration of fields is at its place, before these tokens
+abbrev pub AreFieldsPlaced : (all : List Token) → Variables → (rest : List TokenKind) → Type 0
+AreFieldsPlaced all fields rest = fields.place ≡ spelled_place all
+    (declared_spelled (type_view fields.kind) (map variable_view fields.variables.items) rest) rest
+
 -- Each of these stands in a text of these tokens before a rest of them. A statement has its place,
--- unless it is empty, and so has each one within it.
+-- unless it is empty, and so has each one within it, each rate and each declaration of fields.
 abbrev mutual
   pub IsPlaced : (all : List Token) → Stmt → (rest : List TokenKind) → Type 0
   IsPlaced all stmt.Empty rest = Unit {0}
@@ -112,13 +135,16 @@ abbrev mutual
 
   -- the statements of a member of a filter
   pub IsMemberPlaced : (all : List Token) → Member → (rest : List TokenKind) → Type 0
-  IsMemberPlaced all (member.Fields declared) rest = Unit {0}
+  IsMemberPlaced all (member.Fields fields) rest =
+      AreFieldsPlaced all fields (token.Punctuation punctuation.Semicolon ∷ rest)
   IsMemberPlaced all (member.Init' shape block) rest =
       IsRowPlaced all block (token.Punctuation punctuation.CloseBrace ∷ rest)
   IsMemberPlaced all (member.Prework' rates shape block) rest =
-      IsRowPlaced all block (token.Punctuation punctuation.CloseBrace ∷ rest)
+      AreRatesPlaced all rates.items (block_spelled (row_view block) rest)
+      × IsRowPlaced all block (token.Punctuation punctuation.CloseBrace ∷ rest)
   IsMemberPlaced all (member.Work' rates shape block) rest =
-      IsRowPlaced all block (token.Punctuation punctuation.CloseBrace ∷ rest)
+      AreRatesPlaced all rates.items (block_spelled (row_view block) rest)
+      × IsRowPlaced all block (token.Punctuation punctuation.CloseBrace ∷ rest)
   IsMemberPlaced all (member.Helper' kind name parameters shape block) rest =
       IsRowPlaced all block (token.Punctuation punctuation.CloseBrace ∷ rest)
 
@@ -154,6 +180,13 @@ IsBlockPlaced all [] rest = Unit {0}
 IsBlockPlaced all (first ∷ others) rest =
     IsPlaced all first (row_spelled (block_view others) rest) × IsBlockPlaced all others rest
 
+-- rates and a block
+abbrev pub IsPhasePlaced : (all : List Token) → Vec RateTree × Vec Stmt → (rest : List TokenKind)
+    → Type 0
+IsPhasePlaced all phase rest =
+    AreRatesPlaced all phase.0.items (block_spelled (row (map stmt_view phase.1.items)) rest)
+    × IsBlockPlaced all phase.1.items (token.Punctuation punctuation.CloseBrace ∷ rest)
+
 -- the statements of members one after another
 abbrev pub ArePartsPlaced : (all : List Token) → List Member → (rest : List TokenKind) → Type 0
 ArePartsPlaced all [] rest = Unit {0}
@@ -179,6 +212,7 @@ AreStreamsPlaced all (first ∷ others) rest =
     (each_spelled declaration_spelled (map declaration_view others) rest)
     × AreStreamsPlaced all others rest
 
--- each statement of a program that these tokens spell is at the place of the tokens that spell it
+-- each statement, rate and declaration of fields of a program that these tokens spell is at the place
+-- of the tokens that spell it
 abbrev pub IsProgramPlaced : (all : List Token) → Program → Type 0
 IsProgramPlaced all program = AreStreamsPlaced all program.declarations.items []

@@ -1,8 +1,6 @@
 // The members of filters. Blocks in them are read by the rules of statements.
 
-ghost use Rattle.std.specs.Prelude.{◌≡◌, ◌∷◌, ◌-◌, ◌<◌, List, map, IfOk};
-ghost use Rattle.strc_lex.specs.declared.token.Token.{Token};
-ghost use Rattle.strc_lex.specs.declared.token.TokenKind.{TokenKind};
+ghost use Rattle.std.specs.Prelude.{◌≡◌, ◌∷◌, ◌-◌, ◌<◌, map, IfOk};
 ghost use Rattle.strc_lex.specs.declared.token.TokenKind.TheVariants as token;
 ghost use Rattle.strc_lex.specs.declared.token.Punctuation.TheVariants as punctuation;
 ghost use Rattle.strc_syntax.specs.View.{expr_view, rate_view, member_view};
@@ -11,12 +9,14 @@ ghost use Rattle.strc_grammar.specs.Seen.{parsed, parsed_all};
 ghost use Rattle.strc_parse.specs.Seen.{block_view, phase_view, seen_rate};
 ghost use Rattle.strc_grammar.specs.Streams as spec;
 ghost use Rattle.strc_grammar.specs.Reading.{Gives};
-ghost use Rattle.strc_parse.specs.Placed.{IsBlockPlaced, IsMemberPlaced, ArePartsPlaced};
+ghost use Rattle.strc_parse.specs.Placed.{ArePartsPlaced, AreRatesPlaced, IsBlockPlaced};
+ghost use Rattle.strc_parse.specs.Placed.{IsMemberPlaced, IsPhasePlaced};
 ghost use Rattle.strc_parse.specs.Readers.{ReadsStatements};
 ghost use Rattle.strc_parse.specs.Parts as parts;
 
 use crate::control::StatementRules;
 use crate::kept::{both, with_mark, with_next};
+use crate::place::place_between;
 use std::alloc::Global;
 use strc_grammar::ReadError;
 use strc_grammar::expression::{LOWEST_PRECEDENCE, expression};
@@ -24,7 +24,6 @@ use strc_grammar::lookahead::{expect, is_heading, is_punctuation, name, peek, ta
 use strc_grammar::parameter::closed_parameters;
 use strc_grammar::parsed::Parsed;
 use strc_grammar::part::{before, beside};
-use strc_grammar::place::span_of;
 use strc_grammar::variable::declared;
 use strc_lex::token::{Keyword, Punctuation, Token, TokenKind};
 use strc_syntax::node::{helper_of, init_of, prework_of, work_of};
@@ -70,12 +69,15 @@ fn rate_of<'t>(
 
 /// The rates of a work, each at most once, and the height of the highest or 0.
 #[tactic(auto, unfolding(strc_grammar::specs::Streams::rates))]
-fn rates(
+fn rates<'t>(
     alloc: Global,
+    all: &'t [Token],
     limit: usize,
-    tokens: &[Token],
-) -> Result<Parsed<'_, Vec<RateTree>>, ReadError>
-    ensures { Gives (parsed_all rate_view) result (spec.rates limit (kinds tokens.entry.now)) }
+    tokens: &'t [Token],
+) -> Result<Parsed<'t, Vec<RateTree>>, ReadError>
+    ensures gives { Gives (parsed_all rate_view) result
+        (spec.rates limit (kinds tokens.entry.now)) }
+    ensures placed { IfOk result (λ r. AreRatesPlaced all.now r.value.items (kinds r.rest.now)) }
 {
     let mut found = Vec::new(alloc);
     let mut highest = 0;
@@ -85,7 +87,7 @@ fn rates(
         found.push(RateTree {
             kind,
             rate: rate.value,
-            place: span_of(rest, rate.rest),
+            place: place_between(all, rest.len(), rate.rest.len()),
         })?;
         highest = highest.max(rate.height);
         rest = rate.rest;
@@ -95,17 +97,21 @@ fn rates(
 
 /// Fields of one type, and the height of the highest expression or 0.
 #[tactic(auto, unfolding(strc_grammar::specs::Streams::fields))]
-fn fields(alloc: Global, limit: usize, tokens: &[Token]) -> Result<Parsed<'_, Member>, ReadError>
+fn fields<'t>(
+    alloc: Global,
+    all: &'t [Token],
+    limit: usize,
+    tokens: &'t [Token],
+) -> Result<Parsed<'t, Member>, ReadError>
     ensures gives { Gives (parsed member_view) result (spec.fields limit (kinds tokens.now)) }
-    ensures plain { IfOk result (λ r. (all : List Token) (rest : List TokenKind)
-        → IsMemberPlaced all r.value rest) }
+    ensures placed { IfOk result (λ r. IsMemberPlaced all.now r.value (kinds r.rest.now)) }
 {
-    let declared = with_mark(Punctuation::Semicolon, declared(alloc, limit, tokens))?;
-    Ok(Parsed::new(
-        Member::Fields(declared.value),
-        declared.height,
-        declared.rest,
-    ))
+    let declared = declared(alloc, limit, tokens)?;
+    let place = place_between(all, tokens.len(), declared.rest.len());
+    let declared = with_mark(Punctuation::Semicolon, Ok(declared))?;
+    let mut fields = declared.value;
+    fields.place = place;
+    Ok(Parsed::new(Member::Fields(fields), declared.height, declared.rest))
 }
 
 // Statements and expressions of a member are read one depth below, and the heights are those of its
@@ -156,10 +162,10 @@ where
         ensures gives { Gives (parsed phase_view) result
             (spec.phase (self.now.depth - 1) (spec.statement (self.now.depth - 1))
             (kinds tokens.now)) }
-        ensures placed { IfOk result (λ r. IsBlockPlaced self.now.all.now r.value.1.items
-            (token.Punctuation punctuation.CloseBrace ∷ kinds r.rest.now)) }
+        ensures placed { IfOk result (λ r.
+            IsPhasePlaced self.now.all.now r.value (kinds r.rest.now)) }
     {
-        let read = rates(self.alloc, self.depth - 1, tokens)?;
+        let read = rates(self.alloc, self.all, self.depth - 1, tokens)?;
         both(read.value, read.height, self.braced(read.rest))
     }
 
@@ -241,7 +247,7 @@ where
         if is_heading(tail(tokens)) {
             self.helper_function(kind, tail(tokens))
         } else {
-            fields(self.alloc, self.depth - 1, tokens)
+            fields(self.alloc, self.all, self.depth - 1, tokens)
         }
     }
 

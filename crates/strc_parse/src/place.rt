@@ -1,4 +1,4 @@
-// Where statements are in the text.
+// Where statements, rates and fields are in the text.
 
 ghost use Rattle.std.specs.Prelude.{◌≡◌, IfOk, IfErr, length};
 ghost use Rattle.strc_syntax.specs.View.{stmt_view};
@@ -17,7 +17,7 @@ use strc_syntax::node::placed_of;
 use strc_syntax::tree::Stmt;
 
 /// The place in a text of these tokens from where so many of them are left up to where so many are.
-fn place_between(all: &[Token], from: usize, after: usize) -> Span
+pub(crate) fn place_between(all: &[Token], from: usize, after: usize) -> Span
     ensures { result ≡ spec.place_between all.now from after }
 {
     span_of(
