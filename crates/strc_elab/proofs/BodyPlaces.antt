@@ -23,7 +23,8 @@ use Rattle.strc_statements.specs.Answers.{IsRefusal}
 use Rattle.strc_statements.specs.declared.error.ElabError.{ElabError}
 use Rattle.strc_elab.specs.Answering.{IsPlaceOf}
 use Rattle.strc_elab.specs.Elaboration.{Progress, stmt_run}
-use Rattle.strc_elab.specs.Places.{Tracing, place_after, stmt_place, row_place, block_place}
+use Rattle.strc_elab.specs.Places.{Tracing, place_after, stmt_trace, row_trace, block_trace}
+use Rattle.strc_elab.specs.declared.trace.Trace.{Trace}
 use Rattle.strc_elab.specs.Sources.{FilterSource, CompositeSource, row_statements, row_members}
 use Rattle.strc_elab.specs.Sources.{child_source}
 use Rattle.strc_elab.proofs.Places.{placed_same, first_placed, place_after_done}
@@ -40,56 +41,58 @@ drop_first items i x lt at =
 
 -- the first of the statements that are left runs
 pub blocks_go_on : (tracing : Tracing) (names names' : TypedNames) (outer : ℕ)
-    (items : List Stmt) (i : ℕ) (x : Stmt) (p after : Progress) (here : Option Span)
+    (items : List Stmt) (i : ℕ) (x : Stmt) (p after : Progress) (trace trace' : Trace)
     → i < length items → x ≡ get_or items i x
     → stmt_run tracing.setting names outer (stmt_view x) p ≡ Ok after
     → names' ≡ names_after names (stmt_view x)
-    → block_place tracing names' outer (drop (i + 1) items) after here
-    ≡ block_place tracing names outer (drop i items) p here
-blocks_go_on tracing names names' outer items i x p after here lt at ran grown =
-    let rest : Progress → Option Span = λ a.
-    block_place tracing (names_after names (stmt_view x)) outer (drop (i + 1) items) a here in
-    ap (λ n. block_place tracing n outer (drop (i + 1) items) after here) grown
-    ∙ sym (ap (λ l. block_place tracing names outer l p here) (drop_first items i x lt at)
-    ∙ place_after_done (stmt_run tracing.setting names outer (stmt_view x) p)
-    (stmt_place tracing names outer x p here) rest after ran)
+    → trace' ≡ stmt_trace tracing names outer x p trace
+    → block_trace tracing names' outer (drop (i + 1) items) after trace'
+    ≡ block_trace tracing names outer (drop i items) p trace
+blocks_go_on tracing names names' outer items i x p after trace trace' lt at ran grown moved =
+    let own = stmt_trace tracing names outer x p trace in
+    let rest : Progress → Trace → Trace =
+    block_trace tracing (names_after names (stmt_view x)) outer (drop (i + 1) items) in
+    ap (λ n. block_trace tracing n outer (drop (i + 1) items) after trace') grown
+    ∙ ap (rest after) moved
+    ∙ sym (ap (λ l. block_trace tracing names outer l p trace) (drop_first items i x lt at)
+    ∙ place_after_done (stmt_run tracing.setting names outer (stmt_view x) p) own
+    (λ a. rest a own) after ran)
 
 -- the first of the statements that are left is refused
 pub block_placed : (tracing : Tracing) (names : TypedNames) (outer : ℕ) (items : List Stmt)
-    (i : ℕ) (x : Stmt) (p : Progress) (here found : Option Span) (e : ElabError)
+    (i : ℕ) (x : Stmt) (p : Progress) (trace : Trace) (found : Option Span) (e : ElabError)
     → i < length items → x ≡ get_or items i x
     → IsRefusal (stmt_run tracing.setting names outer (stmt_view x) p) e
-    → IsPlaceOf e (stmt_place tracing names outer x p here) found
-    → IsPlaceOf e (block_place tracing names outer (drop i items) p here) found
-block_placed tracing names outer items i x p here found e lt at refuses is =
-    let rest : Progress → Option Span = λ a.
-    block_place tracing (names_after names (stmt_view x)) outer (drop (i + 1) items) a here in
+    → IsPlaceOf e (stmt_trace tracing names outer x p trace).here found
+    → IsPlaceOf e (block_trace tracing names outer (drop i items) p trace).here found
+block_placed tracing names outer items i x p trace found e lt at refuses is =
+    let own = stmt_trace tracing names outer x p trace in
+    let rest : Progress → Trace = λ a.
+    block_trace tracing (names_after names (stmt_view x)) outer (drop (i + 1) items) a own in
     let r = stmt_run tracing.setting names outer (stmt_view x) p in
-    let own = stmt_place tracing names outer x p here in
-    placed_same e (place_after r own rest)
-    (block_place tracing names outer (drop i items) p here) found
-    (ap (λ l. block_place tracing names outer l p here) (drop_first items i x lt at))
+    placed_same e (place_after r own rest).here
+    (block_trace tracing names outer (drop i items) p trace).here found
+    (ap (λ l. (block_trace tracing names outer l p trace).here) (drop_first items i x lt at))
     (first_placed r e own found rest refuses is)
 
 -- ---- rows
 
-after_same : {A : Type 0} (r : Result A ElabError) (own : Option Span)
-    (next next' : A → Option Span) → ((x : A) → next x ≡ next' x)
-    → place_after r own next ≡ place_after r own next'
+after_same : {A T : Type 0} (r : Result A ElabError) (own : T) (next next' : A → T)
+    → ((x : A) → next x ≡ next' x) → place_after r own next ≡ place_after r own next'
 after_same (Ok x) own next next' same = same x
 after_same (Err e) own next next' same = refl
 
-row_places : (n : _) (row : Row_of-Stmt n) (tracing : Tracing) (names : TypedNames) (outer : ℕ)
-    (p : Progress) (here : Option Span) → row_place tracing names outer row p here
-    ≡ block_place tracing names outer (row_statements row) p here
-row_places n end_of-Stmt tracing names outer p here = refl
-row_places n (more_of-Stmt first rest) tracing names outer p here =
-    after_same (stmt_run tracing.setting names outer (stmt_view first) p)
-    (stmt_place tracing names outer first p here)
-    (λ after. row_place tracing (names_after names (stmt_view first)) outer rest after here)
-    (λ after. block_place tracing (names_after names (stmt_view first)) outer
-    (row_statements rest) after here)
-    (λ after. row_places _ rest tracing (names_after names (stmt_view first)) outer after here)
+row_traces : (n : _) (row : Row_of-Stmt n) (tracing : Tracing) (names : TypedNames) (outer : ℕ)
+    (p : Progress) (trace : Trace) → row_trace tracing names outer row p trace
+    ≡ block_trace tracing names outer (row_statements row) p trace
+row_traces n end_of-Stmt tracing names outer p trace = refl
+row_traces n (more_of-Stmt first rest) tracing names outer p trace =
+    let own = stmt_trace tracing names outer first p trace in
+    after_same (stmt_run tracing.setting names outer (stmt_view first) p) own
+    (λ after. row_trace tracing (names_after names (stmt_view first)) outer rest after own)
+    (λ after. block_trace tracing (names_after names (stmt_view first)) outer
+    (row_statements rest) after own)
+    (λ after. row_traces _ rest tracing (names_after names (stmt_view first)) outer after own)
 
 row_statements-items : (n : _) (row : Row_of-Stmt n)
     → row_statements row ≡ items-the_row-Stmt n row
@@ -111,21 +114,22 @@ kept_statements body =
     let kept = kept_row (Block body) in row_statements-items kept.0 kept.1
     ∙ items_hidden-the_row-Stmt-1 body
 
--- a block is refused where the statements of its list are
-pub stmt_place-Block : (tracing : Tracing) (names : TypedNames) (outer : ℕ)
-    (body : Vec Stmt Global) (p : Progress) (here : Option Span)
-    → stmt_place tracing names outer (Block body) p here
-    ≡ block_place tracing names (length names) body.items p here
-stmt_place-Block tracing names outer body p here =
+-- a block is traced as the statements of its list are
+pub stmt_trace-Block : (tracing : Tracing) (names : TypedNames) (outer : ℕ)
+    (body : Vec Stmt Global) (p : Progress) (trace : Trace)
+    → stmt_trace tracing names outer (Block body) p trace
+    ≡ block_trace tracing names (length names) body.items p trace
+stmt_trace-Block tracing names outer body p trace =
     let kept = kept_row (Block body) in
-    row_places kept.0 kept.1 tracing names (length names) p here
-    ∙ ap (λ l. block_place tracing names (length names) l p here) (kept_statements body)
+    row_traces kept.0 kept.1 tracing names (length names) p trace
+    ∙ ap (λ l. block_trace tracing names (length names) l p trace) (kept_statements body)
 
 pub child_source-Composite : (declarations : List Decl) (written : Option StreamType)
     (kind : CompositeKind) (body : Vec Stmt Global)
-    → child_source declarations (Composite written kind body) ≡ CompositeSource kind body.items
+    → child_source declarations (Composite written kind body)
+    ≡ CompositeSource written kind body.items
 child_source-Composite declarations written kind body =
-    ap (CompositeSource kind) (kept_statements body)
+    ap (CompositeSource written kind) (kept_statements body)
 
 abbrev kept_members : Child → (n : Count) × Row_of-Member n
 kept_members (Filter' _ _ kept) = (_, kept)
@@ -141,14 +145,13 @@ child_source-Filter declarations types members =
 
 -- ---- choices
 
--- where a chosen statement is refused, once the condition has its value
-pub chosen_place : (test : Result (ℤ × Progress) ElabError) (here : Option Span)
-    (chosen other : Progress → Option Span) (value : ℤ) (tested : Progress) (b : Bool)
+-- what is traced of a chosen statement, once the condition has its value
+pub chosen_trace : (test : Result (ℤ × Progress) ElabError) (trace : Trace)
+    (chosen other : Progress → Trace) (value : ℤ) (tested : Progress) (b : Bool)
     → test ≡ Ok (value, tested) → is_true value ≡ b
-    → place_after test here (λ t. cond (is_true t.0) (chosen t.1) (other t.1))
+    → place_after test trace (λ t. cond (is_true t.0) (chosen t.1) (other t.1))
     ≡ cond b (chosen tested) (other tested)
-chosen_place test here chosen other value tested b is holds =
-    let go : ℤ × Progress → Option Span =
-    λ t. cond (is_true t.0) (chosen t.1) (other t.1) in
-    place_after_done test here go (value, tested) is
+chosen_trace test trace chosen other value tested b is holds =
+    let go : ℤ × Progress → Trace = λ t. cond (is_true t.0) (chosen t.1) (other t.1) in
+    place_after_done test trace go (value, tested) is
     ∙ ap (λ t. cond t (chosen tested) (other tested)) holds

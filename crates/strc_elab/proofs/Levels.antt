@@ -1,12 +1,18 @@
 -- Streams in one another, level by level.
-use Rattle.std.proofs.Common.{◌≡◌, ℕ, zero, suc, ◌-◌, List, [], map, refl, ap, ◌∙◌, arith}
+use Rattle.std.proofs.Common.{◌≡◌, ℕ, zero, suc, ◌-◌, List, [], map, Result, refl, ap, ◌∙◌}
+use Rattle.std.proofs.Common.{subst, arith}
 use Rattle.strc_syntax.specs.View.{declaration_view}
 use Rattle.strc_syntax.specs.declared.tree.Decl.{Decl}
 use Rattle.strc_syntax.specs.Tree.{Declaration}
 use Rattle.strc_elab.specs.Elaboration.{Totals, text_elaborated, stream_elaborated, main_elaborated}
 use Rattle.strc_elab.specs.Elaboration.{level_limit}
 use Rattle.strc_elab.specs.Places.{stream_place, text_place, main_place}
-use Rattle.strc_elab.specs.Sources.{Source, numbered_source}
+use Rattle.strc_elab.specs.Answering.{IsPlacedVerdict, IsPlaced}
+use Rattle.strc_elab.specs.Sources.{Source, numbered_source, text_source}
+use Rattle.strc_elab.specs.Tasks.{IsTaskVerdict, program_of, place_of, text_view, elaborated_view}
+use Rattle.strc_elab.specs.declared.placed.PlacedError.{PlacedError}
+use Rattle.strc_elab.specs.declared.task.Elaborated.{Elaborated}
+use Rattle.strc_elab.specs.declared.task.Task.{Task}
 use Rattle.strc_statements.specs.Texts.{Constants, Place, Text, text_of}
 
 -- a stream that may have a level is what its text makes of the streams of the levels below
@@ -56,6 +62,23 @@ stream_place-level declarations (suc levels) place source totals some =
       declarations = declarations;
       below = stream_place declarations n;
     }) source totals) below
+
+-- a task's answer, where its levels and totals are these
+pub record IsJudged (task : Task) (levels turns filters : ℕ) (answer : Result Elaborated PlacedError)
+    : Type 0 where
+  pub verdict : IsPlacedVerdict elaborated_view (stream_elaborated (program_of task) levels
+      (place_of task) (text_view task.text) (record { turns = turns; filters = filters })) answer
+  pub place : IsPlaced (stream_place task.declarations.now levels (place_of task)
+      (text_source task.text) (record { turns = turns; filters = filters })) answer
+
+pub judged_at : (task : Task) (levels turns filters : ℕ) (answer : Result Elaborated PlacedError)
+    → task.levels ≡ levels → task.totals.turns ≡ turns → task.totals.filters ≡ filters
+    → IsTaskVerdict task answer → IsJudged task levels turns filters answer
+judged_at task levels turns filters answer level turned counted h =
+    subst (λ f. IsJudged task levels turns f answer) counted
+    (subst (λ t. IsJudged task levels t task.totals.filters answer) turned
+    (subst (λ n. IsJudged task n task.totals.turns task.totals.filters answer) level
+    (record { verdict = h.verdict; place = h.place })))
 
 -- a stream without a level isn't made
 pub stream_elaborated-none : (program : List Declaration) (levels : ℕ) (place : Place) (text : Text)

@@ -1,4 +1,5 @@
 pub mod Bodies
+pub mod AssemblyPlaces
 pub mod BodyPlaces
 pub mod ChildPlaces
 pub mod Children

@@ -14,6 +14,7 @@ use Rattle.strc_statements.specs.declared.error.ElabError.{ElabError}
 use Rattle.strc_statements.specs.declared.error.ElabErrorKind.TheVariants.{NoMemory}
 use Rattle.strc_elab.specs.declared.placed.PlacedError.{PlacedError}
 use Rattle.strc_elab.specs.declared.progress.Progress.{Progress}
+use Rattle.strc_elab.specs.declared.trace.Trace.{Trace}
 use Rattle.strc_elab.specs.declared.task.Elaborated.{Elaborated}
 use Rattle.strc_base.specs.declared.place.Span.{Span}
 use Rattle.strc_statements.specs.Splits.{split_view}
@@ -80,11 +81,11 @@ abbrev pub IsPlaceOf : ElabError → (expected found : Option Span) → Type 0
 IsPlaceOf NoMemory expected found = Unit {0}
 IsPlaceOf refusal expected found = found ≡ expected
 
--- after a refusal the innermost statement is the one that was refused, and else the one before
-abbrev pub Stands : {X : Type 0} → Result X ElabError → (expected before after : Option Span)
-    → Type 0
-Stands (Ok done) expected before after = after ≡ before
-Stands (Err refusal) expected before after = IsPlaceOf refusal expected after
+-- after an answer these are a body's places; after a refusal the innermost statement is the one
+-- that was refused
+abbrev pub Traces : {X : Type 0} → Result X ElabError → (expected after : Trace) → Type 0
+Traces (Ok done) expected after = after ≡ expected
+Traces (Err refusal) expected after = IsPlaceOf refusal expected.here after.here
 
 -- an answer, whose refusal has a place, is the judgement's
 abbrev pub IsPlacedVerdict : {X A : Type 0} → (X → A) → Result A ElabError → Result X PlacedError
@@ -96,6 +97,17 @@ IsPlacedVerdict view expected (Err refusal) = IsRefusal expected refusal.error
 abbrev pub IsPlaced : {X : Type 0} → (expected : Option Span) → Result X PlacedError → Type 0
 IsPlaced expected (Ok x) = Unit {0}
 IsPlaced expected (Err refusal) = IsPlaceOf refusal.error expected refusal.place
+
+-- an answer is a body at these places, and its refusal is at the innermost statement
+abbrev pub IsTraced : (expected : Trace) → Result Progress PlacedError → Type 0
+IsTraced expected (Ok progress) = progress.trace ≡ expected
+IsTraced expected (Err refusal) = IsPlaceOf refusal.error expected.here refusal.place
+
+-- an answer, whose refusal gets this place
+abbrev pub refused_at : {X : Type 0} → (place : Option Span) → Result X ElabError
+    → Result X PlacedError
+refused_at place (Ok x) = Ok x
+refused_at place (Err refusal) = Err (record { error = refusal; place = place })
 
 -- a refusal of a text one level below is within that text, as far as that is known
 pub record IsWithin (answer : Result Elaborated PlacedError) (refusal : ElabError)

@@ -15,10 +15,11 @@ use Rattle.strc_syntax.specs.declared.tree.Decl.{Decl}
 use Rattle.strc_elab.specs.declared.task.Text.{Text}
 use Rattle.strc_elab.specs.declared.task.Text.TheVariants as text
 
--- the text of a stream, as far as it has statements
+-- the text of a stream, as far as it has statements, with the type that is written
 pub data Source : Type 0 where
   FilterSource : (types : StreamType) (members : List Member) → Source
-  CompositeSource : (kind : CompositeKind) (block : List Stmt) → Source
+  CompositeSource : (written : Option StreamType) (kind : CompositeKind) (block : List Stmt)
+      → Source
   GivenSource : Source
 
 -- a row as a list
@@ -33,7 +34,7 @@ row_members (more_of-Member first rest) = first ∷ row_members rest
 -- of a text that is elaborated
 abbrev pub text_source : Text → Source
 text_source (text.Filter name types members) = FilterSource types members.now
-text_source (text.Composite written kind block) = CompositeSource kind block.now
+text_source (text.Composite written kind block) = CompositeSource written kind block.now
 text_source text.Identity = GivenSource
 text_source (text.Reader between) = GivenSource
 text_source (text.Writer between) = GivenSource
@@ -42,7 +43,8 @@ text_source (text.Writer between) = GivenSource
 abbrev pub stream_source : StreamTree → Source
 stream_source (stream.Filter filter) =
     FilterSource (record { input = filter.input; output = filter.output }) filter.members.items
-stream_source (stream.Composite composite) = CompositeSource composite.kind composite.block.items
+stream_source (stream.Composite composite) =
+    CompositeSource (Some composite.types) composite.kind composite.block.items
 
 abbrev pub declaration_source : Decl → Source
 declaration_source declaration = stream_source declaration.stream
@@ -70,4 +72,4 @@ child_source declarations (child.FileWriter between) = GivenSource
 child_source declarations (child.Filter' types shape members) =
     FilterSource types (row_members members)
 child_source declarations (child.Composite' written kind shape block) =
-    CompositeSource kind (row_statements block)
+    CompositeSource written kind (row_statements block)

@@ -1,14 +1,17 @@
 // What is made of a composite stream's body that has run.
 
-ghost use Rattle.std.specs.Prelude.{◌≡◌, map, IfOk, IsSome, nat_lt, slice_index};
+ghost use Rattle.std.specs.Prelude.{◌≡◌, map, IsSome, None, nat_lt, slice_index};
 ghost use Rattle.std.specs.Option.{option_map};
 ghost use Rattle.strc_graph.specs.Carriers.{splitter_carries as splitter_carries_at};
 ghost use Rattle.strc_graph.specs.NodeView.{splitter_view};
 ghost use Rattle.strc_stream.specs.Instances as instances;
 ghost use Rattle.strc_stream.specs.Types as stream_types;
 ghost use Rattle.strc_stream.specs.View.{stream_view};
-ghost use Rattle.strc_statements.specs.Answers.{IsVerdict};
 ghost use Rattle.strc_elab.specs.Answering.{progress_of, join_view, part_view};
+ghost use Rattle.strc_elab.specs.Answering.{IsPlacedVerdict, IsPlaced};
+ghost use Rattle.strc_elab.specs.Places.{assembly_place, pipeline_place, splitjoin_place};
+ghost use Rattle.strc_elab.specs.Places.{loop_place, ends_place};
+ghost use Rattle.strc_elab.specs.Places.{takes_as_written as takes_as_written_at};
 ghost use Rattle.strc_statements.specs.declared.error.ElabErrorKind.TheVariants as refused;
 ghost use Rattle.strc_statements.specs.Splits.{split_view};
 ghost use Rattle.strc_statements.specs.Weights as weights;
@@ -16,13 +19,15 @@ ghost use Rattle.strc_elab.specs.Elaboration as spec;
 ghost use Rattle.strc_elab.specs.Assembly.{elaborated_as, IsLoopOf};
 ghost use Rattle.strc_elab.specs.Tasks.{elaborated_view};
 
+use crate::placed::{PlacedError, refused_at};
 use crate::progress::Progress;
 use crate::task::{Elaborated, Task};
+use crate::trace::Trace;
 use std::alloc::Global;
 use strc_base::place::Span;
 use strc_check::site::{Mismatch, Part};
 use strc_graph::graph::Splitter;
-use strc_statements::error::{ElabError, placed};
+use strc_statements::error::ElabError;
 use strc_statements::types::{any_side, inputs_in, outputs_in, side, types_in_a_row};
 use strc_statements::weights::{
     Split, input_written, join_dealt, loop_splitter, loop_weights, output_written, split_dealt,
@@ -38,10 +43,12 @@ impl Task<'_> {
         kind: CompositeKind,
         written: Option<StreamType>,
         progress: &mut Progress,
-    ) -> Result<Elaborated, ElabError>
-        ensures { IsVerdict elaborated_view
+    ) -> Result<Elaborated, PlacedError>
+        ensures verdict { IsPlacedVerdict elaborated_view
             (spec.composite_assembly kind self.now.declaration written
             (progress_of progress.old)) result }
+        ensures place { IsPlaced (assembly_place kind self.now.declaration written
+            (progress_of progress.old) progress.old.trace) result }
     {
         match kind {
             CompositeKind::Pipeline => self.pipeline_assembly(written, progress),
@@ -55,16 +62,19 @@ impl Task<'_> {
         &self,
         written: Option<StreamType>,
         progress: &mut Progress,
-    ) -> Result<Elaborated, ElabError>
-        ensures { IsVerdict elaborated_view (spec.pipeline_assembly self.now.declaration written
-            progress.old.types.items (progress_of progress.old)) result }
+    ) -> Result<Elaborated, PlacedError>
+        ensures verdict { IsPlacedVerdict elaborated_view
+            (spec.pipeline_assembly self.now.declaration written progress.old.types.items
+            (progress_of progress.old)) result }
+        ensures place { IsPlaced (pipeline_place written progress.old.types.items
+            progress.old.trace) result }
     {
         match types_in_a_row(&progress.types) {
             Some(types) if is_as_written(written, types) => {
                 Ok(pipeline_of(self.alloc, types, progress))
             }
-            Some(types) => Err(self.ends_differ(written, types, &progress.children)),
-            None => Err(self.missing(CompositeKind::Pipeline, Part::Add)),
+            Some(types) => Err(self.ends_differ(written, types, progress.trace)),
+            None => Err(self.refused_whole(Mismatch::Missing(CompositeKind::Pipeline, Part::Add))),
         }
     }
 
@@ -73,17 +83,21 @@ impl Task<'_> {
         &self,
         written: Option<StreamType>,
         progress: &mut Progress,
-    ) -> Result<Elaborated, ElabError>
-        ensures { IsVerdict elaborated_view (spec.splitjoin_assembly self.now.declaration written
+    ) -> Result<Elaborated, PlacedError>
+        ensures verdict { IsPlacedVerdict elaborated_view
+            (spec.splitjoin_assembly self.now.declaration written
             progress.old.types.items (option_map split_view progress.old.split)
             (join_view progress.old.join) (progress_of progress.old)) result }
+        ensures place { IsPlaced (splitjoin_place self.now.declaration
+            progress.old.types.items (option_map split_view progress.old.split)
+            (join_view progress.old.join) (progress_of progress.old) progress.old.trace) result }
     {
         match (&progress.split, &progress.join) {
             (Some(split), Some(join)) if !progress.types.is_empty() => {
                 let inputs = inputs_in(self.alloc, &progress.types)?;
                 let outputs = outputs_in(self.alloc, &progress.types)?;
-                let splitter = self.split_at(progress.split_place, split, &inputs)?;
-                let joiner = self.join_at(progress.join_place, join, &outputs)?;
+                let splitter = self.split_at(progress.trace.split, split, &inputs)?;
+                let joiner = self.join_at(progress.trace.join, join, &outputs)?;
                 let types = StreamType {
                     input: any_side(&inputs),
                     output: any_side(&outputs),
@@ -91,10 +105,13 @@ impl Task<'_> {
                 if is_as_written(written, types) {
                     Ok(splitjoin_of(self.alloc, types, splitter, joiner, progress))
                 } else {
-                    Err(ElabError::mismatch(self.declaration, Mismatch::Sides))
+                    Err(self.refused_whole(Mismatch::Sides))
                 }
             }
-            _ => Err(self.missing(CompositeKind::Splitjoin, splitjoin_lacks(progress))),
+            _ => {
+                let lacks = splitjoin_lacks(progress);
+                Err(self.refused_whole(Mismatch::Missing(CompositeKind::Splitjoin, lacks)))
+            }
         }
     }
 
@@ -103,34 +120,43 @@ impl Task<'_> {
         &self,
         written: Option<StreamType>,
         progress: &mut Progress,
-    ) -> Result<Elaborated, ElabError>
-        ensures { IsVerdict elaborated_view (spec.loop_assembly self.now.declaration written
+    ) -> Result<Elaborated, PlacedError>
+        ensures verdict { IsPlacedVerdict elaborated_view
+            (spec.loop_assembly self.now.declaration written
             (join_view progress.old.join) (part_view progress.old.body)
             (option_map split_view progress.old.split) (part_view progress.old.looped)
             (progress_of progress.old)) result }
+        ensures place { IsPlaced (loop_place self.now.declaration written
+            (join_view progress.old.join) (part_view progress.old.body)
+            (option_map split_view progress.old.split) (part_view progress.old.looped)
+            progress.old.trace) result }
     {
         match (&progress.join, &progress.split) {
             (Some(join), Some(split)) if progress.body.is_some() && progress.looped.is_some() => {
                 let taken = input_written(written);
-                let joiner = self.loop_join_at(progress.join_place, taken, join)?;
+                let joiner = self.loop_join_at(progress.trace.join, taken, join)?;
                 let given = output_written(written);
-                let splitter = self.loop_split_at(progress.split_place, given, split)?;
+                let splitter = self.loop_split_at(progress.trace.split, given, split)?;
                 let types = loop_types(&joiner, &splitter);
                 if is_as_written(written, types) {
                     Ok(loop_of(self.alloc, types, joiner, splitter, progress))
                 } else {
-                    Err(ElabError::mismatch(self.declaration, Mismatch::LoopSides))
+                    Err(self.refused_whole(Mismatch::LoopSides))
                 }
             }
-            _ => Err(self.missing(CompositeKind::Feedbackloop, loop_lacks(progress))),
+            _ => {
+                let lacks = loop_lacks(progress);
+                Err(self.refused_whole(Mismatch::Missing(CompositeKind::Feedbackloop, lacks)))
+            }
         }
     }
 
-    /// A stream of this kind has no statement of this part.
-    fn missing(&self, kind: CompositeKind, part: Part) -> ElabError
-        ensures { result ≡ refused.TypeMismatch self.now.declaration }
+    /// The stream as a whole breaks this rule on types and parts.
+    fn refused_whole(&self, mismatch: Mismatch) -> PlacedError
+        ensures error { result.error ≡ refused.TypeMismatch self.now.declaration }
+        ensures place { result.place ≡ None }
     {
-        ElabError::mismatch(self.declaration, Mismatch::Missing(kind, part))
+        PlacedError::from(ElabError::mismatch(self.declaration, mismatch))
     }
 
     /// A pipeline takes other than what is written, as its first child does, or else gives other
@@ -139,14 +165,21 @@ impl Task<'_> {
         &self,
         written: Option<StreamType>,
         types: StreamType,
-        children: &[Stream],
-    ) -> ElabError
-        ensures { result ≡ refused.TypeMismatch self.now.declaration }
+        trace: Trace,
+    ) -> PlacedError
+        ensures error { result.error ≡ refused.TypeMismatch self.now.declaration }
+        ensures place { result.place ≡ ends_place written types.input trace }
     {
         if takes_as_written(written, types) {
-            ElabError::mismatch(self.declaration, Mismatch::Last).or_at(last_added(children))
+            PlacedError {
+                error: ElabError::mismatch(self.declaration, Mismatch::Last),
+                place: trace.last,
+            }
         } else {
-            ElabError::mismatch(self.declaration, Mismatch::First).or_at(first_added(children))
+            PlacedError {
+                error: ElabError::mismatch(self.declaration, Mismatch::First),
+                place: trace.first,
+            }
         }
     }
 
@@ -156,11 +189,12 @@ impl Task<'_> {
         place: Option<Span>,
         split: &Split,
         inputs: &[ItemType],
-    ) -> Result<Option<Splitter>, ElabError>
-        ensures { IsVerdict (option_map splitter_view)
+    ) -> Result<Option<Splitter>, PlacedError>
+        ensures verdict { IsPlacedVerdict (option_map splitter_view)
             (weights.split_dealt self.now.declaration (split_view split.now) inputs.now) result }
+        ensures place { IsPlaced place result }
     {
-        placed(
+        refused_at(
             place,
             split_dealt(self.alloc, self.declaration, split, inputs),
         )
@@ -172,11 +206,12 @@ impl Task<'_> {
         place: Option<Span>,
         join: &[i32],
         outputs: &[ItemType],
-    ) -> Result<Option<Vec<u32>>, ElabError>
-        ensures { IsVerdict (option_map (λ dealt. dealt.items))
+    ) -> Result<Option<Vec<u32>>, PlacedError>
+        ensures verdict { IsPlacedVerdict (option_map (λ dealt. dealt.items))
             (weights.join_dealt self.now.declaration join.now outputs.now) result }
+        ensures place { IsPlaced place result }
     {
-        placed(
+        refused_at(
             place,
             join_dealt(self.alloc, self.declaration, join, outputs),
         )
@@ -188,11 +223,12 @@ impl Task<'_> {
         place: Option<Span>,
         taken: ItemType,
         join: &[i32],
-    ) -> Result<Vec<u32>, ElabError>
-        ensures { IsVerdict (λ dealt. dealt.items) (weights.weighted self.now.declaration
-            (weights.loop_weights taken join.now)) result }
+    ) -> Result<Vec<u32>, PlacedError>
+        ensures verdict { IsPlacedVerdict (λ dealt. dealt.items)
+            (weights.weighted self.now.declaration (weights.loop_weights taken join.now)) result }
+        ensures place { IsPlaced place result }
     {
-        placed(
+        refused_at(
             place,
             loop_weights(self.alloc, self.declaration, taken, join),
         )
@@ -204,11 +240,12 @@ impl Task<'_> {
         place: Option<Span>,
         given: ItemType,
         split: &Split,
-    ) -> Result<Splitter, ElabError>
-        ensures { IsVerdict splitter_view (weights.weighted self.now.declaration
+    ) -> Result<Splitter, PlacedError>
+        ensures verdict { IsPlacedVerdict splitter_view (weights.weighted self.now.declaration
             (weights.loop_splitter given (split_view split.now))) result }
+        ensures place { IsPlaced place result }
     {
-        placed(
+        refused_at(
             place,
             loop_splitter(self.alloc, self.declaration, given, split),
         )
@@ -240,26 +277,12 @@ fn loop_lacks(progress: &Progress) -> Part {
 }
 
 /// Whether a pipeline takes what is written.
-fn takes_as_written(written: Option<StreamType>, types: StreamType) -> bool {
+fn takes_as_written(written: Option<StreamType>, types: StreamType) -> bool
+    ensures { result ≡ takes_as_written_at written types.input }
+{
     match written {
         Some(written) => same_item(written.input, types.input),
         None => true,
-    }
-}
-
-/// The statement that adds the first of these streams, where that is known.
-fn first_added(children: &[Stream]) -> Option<Span> {
-    match children {
-        [Stream::Placed(place, _), ..] => Some(*place),
-        _ => None,
-    }
-}
-
-/// The statement that adds the last of these streams, where that is known.
-fn last_added(children: &[Stream]) -> Option<Span> {
-    match children {
-        [.., Stream::Placed(place, _)] => Some(*place),
-        _ => None,
     }
 }
 

@@ -14,10 +14,10 @@ ghost use Rattle.strc_elab.specs.Elaboration as spec;
 ghost use Rattle.strc_elab.specs.Loops.{while_looped, for_looped, names_after_block};
 ghost use Rattle.strc_statements.specs.Saying.{store_of};
 ghost use Rattle.strc_statements.specs.Answers.{Done};
-ghost use Rattle.strc_elab.specs.Answering.{progress_of, Tests, Runs, Stands};
+ghost use Rattle.strc_elab.specs.Answering.{progress_of, Tests, Runs, Traces};
 ghost use Rattle.strc_statements.specs.Places.{place_of as spec_place};
-ghost use Rattle.strc_elab.specs.Places.{stmt_place, block_place, while_place, for_place};
-ghost use Rattle.strc_elab.specs.Places.{for_turns_place};
+ghost use Rattle.strc_elab.specs.Places.{stmt_trace, placed_trace, block_trace, while_trace};
+ghost use Rattle.strc_elab.specs.Places.{for_trace, for_turns_trace};
 ghost use Rattle.strc_elab.specs.Tasks.{IsReady, setting_of, tracing_of, place_of as task_place};
 
 use crate::placed::PlacedError;
@@ -78,7 +78,7 @@ impl<F: Fn(Task) -> Result<Elaborated, PlacedError>> Body<'_, F> {
             (option_map (λ e. expr_view e.now) condition.entry) (progress_of progress.old)) result
             (progress_of progress.new) }
         ensures names { progress.new.store.variables.names ≡ progress.old.store.variables.names }
-        ensures here { progress.new.here ≡ progress.old.here }
+        ensures trace { progress.new.trace ≡ progress.old.trace }
     {
         match condition {
             None => Ok(1),
@@ -100,10 +100,9 @@ impl<F: Fn(Task) -> Result<Elaborated, PlacedError>> Body<'_, F> {
             (progress_of progress.old)) result (progress_of progress.new) }
         ensures names { OnOk result (progress.new.store.variables.names
             ≡ progress.old.store.variables.names) }
-        ensures here { Stands result (stmt_place (tracing_of self.now.task)
+        ensures trace { Traces result (stmt_trace (tracing_of self.now.task)
             progress.old.store.variables.names (length progress.old.store.variables.names)
-            statement.now (progress_of progress.old) progress.old.here) progress.old.here
-            progress.new.here }
+            statement.now (progress_of progress.old) progress.old.trace) progress.new.trace }
     {
         let start = progress.store.variables.count();
         self.statement(start, statement, progress)?;
@@ -126,9 +125,9 @@ impl<F: Fn(Task) -> Result<Elaborated, PlacedError>> Body<'_, F> {
             (progress_of progress.old)) result (progress_of progress.new) }
         ensures names { OnOk result (progress.new.store.variables.names
             ≡ names_after_block progress.old.store.variables.names (block_view block.now)) }
-        ensures here { Stands result (block_place (tracing_of self.now.task)
+        ensures trace { Traces result (block_trace (tracing_of self.now.task)
             progress.old.store.variables.names start block.now (progress_of progress.old)
-            progress.old.here) progress.old.here progress.new.here }
+            progress.old.trace) progress.new.trace }
     {
         for statement in block {
             self.statement(start, statement, progress)?;
@@ -151,9 +150,9 @@ impl<F: Fn(Task) -> Result<Elaborated, PlacedError>> Body<'_, F> {
             (progress_of progress.old)) result (progress_of progress.new) }
         ensures names { OnOk result (progress.new.store.variables.names
             ≡ typing.names_after progress.old.store.variables.names (stmt_view statement.now)) }
-        ensures here { Stands result (stmt_place (tracing_of self.now.task)
+        ensures trace { Traces result (stmt_trace (tracing_of self.now.task)
             progress.old.store.variables.names start statement.now (progress_of progress.old)
-            progress.old.here) progress.old.here progress.new.here }
+            progress.old.trace) progress.new.trace }
     {
         match statement {
             Stmt::Empty => Ok(()),
@@ -210,14 +209,14 @@ impl<F: Fn(Task) -> Result<Elaborated, PlacedError>> Body<'_, F> {
             (progress_of progress.old)) result (progress_of progress.new) }
         ensures names { OnOk result (progress.new.store.variables.names
             ≡ typing.names_after progress.old.store.variables.names (stmt_view statement.now)) }
-        ensures here { Stands result (stmt_place (tracing_of self.now.task)
-            progress.old.store.variables.names start statement.now (progress_of progress.old)
-            (Some place)) progress.old.here progress.new.here }
+        ensures trace { Traces result (placed_trace (tracing_of self.now.task)
+            progress.old.store.variables.names start place statement.now (progress_of progress.old)
+            progress.old.trace) progress.new.trace }
     {
-        let around = progress.here;
-        progress.here = Some(place);
+        let around = progress.trace.here;
+        progress.trace.here = Some(place);
         self.statement(start, statement, progress)?;
-        progress.here = around;
+        progress.trace.here = around;
         Ok(())
     }
 
@@ -230,9 +229,9 @@ impl<F: Fn(Task) -> Result<Elaborated, PlacedError>> Body<'_, F> {
             (progress_of progress.old)) result (progress_of progress.new) }
         ensures names { OnOk result (progress.new.store.variables.names
             ≡ progress.old.store.variables.names) }
-        ensures here { Stands result (block_place (tracing_of self.now.task)
+        ensures trace { Traces result (block_trace (tracing_of self.now.task)
             progress.old.store.variables.names (length progress.old.store.variables.names) block.now
-            (progress_of progress.old) progress.old.here) progress.old.here progress.new.here }
+            (progress_of progress.old) progress.old.trace) progress.new.trace }
     {
         let start = progress.store.variables.count();
         self.statements(start, block, progress)?;
@@ -258,10 +257,10 @@ impl<F: Fn(Task) -> Result<Elaborated, PlacedError>> Body<'_, F> {
             (progress_of progress.new) }
         ensures names { OnOk result (progress.new.store.variables.names
             ≡ progress.old.store.variables.names) }
-        ensures here { Stands result (for_place (tracing_of self.now.task)
-            progress.old.store.variables.names first.now
-            (option_map (λ e. expr_view e.now) condition.entry) step.now body.now
-            (progress_of progress.old) progress.old.here) progress.old.here progress.new.here }
+        ensures trace { Traces result (for_trace (tracing_of self.now.task)
+            progress.old.store.variables.names first.now (option_map (λ e. expr_view e.now)
+            condition.entry) step.now body.now (progress_of progress.old) progress.old.trace)
+            progress.new.trace }
     {
         let start = progress.store.variables.count();
         self.statement(start, first, progress)?;
@@ -284,9 +283,9 @@ impl<F: Fn(Task) -> Result<Elaborated, PlacedError>> Body<'_, F> {
             (suc turn_limit) (progress_of progress.old)) result (progress_of progress.new) }
         ensures names { OnOk result (progress.new.store.variables.names
             ≡ progress.old.store.variables.names) }
-        ensures here { Stands result (while_place (tracing_of self.now.task)
-            progress.old.store.variables.names (expr_view condition.now) body.now progress.old.here
-            (suc turn_limit) (progress_of progress.old)) progress.old.here progress.new.here }
+        ensures trace { Traces result (while_trace (tracing_of self.now.task)
+            progress.old.store.variables.names (expr_view condition.now) body.now (suc turn_limit)
+            (progress_of progress.old) progress.old.trace) progress.new.trace }
     {
         // The limit of iterations comes first; the range is there to end the loop in any case.
         for _round in 0..TURN_LIMIT + 1 {
@@ -315,10 +314,10 @@ impl<F: Fn(Task) -> Result<Elaborated, PlacedError>> Body<'_, F> {
             (progress_of progress.old)) result (progress_of progress.new) }
         ensures names { OnOk result (progress.new.store.variables.names
             ≡ progress.old.store.variables.names) }
-        ensures here { Stands result (for_turns_place (tracing_of self.now.task)
+        ensures trace { Traces result (for_turns_trace (tracing_of self.now.task)
             progress.old.store.variables.names (option_map (λ e. expr_view e.now) condition.entry)
-            step.now body.now progress.old.here (suc turn_limit) (progress_of progress.old))
-            progress.old.here progress.new.here }
+            step.now body.now (suc turn_limit) (progress_of progress.old) progress.old.trace)
+            progress.new.trace }
     {
         for _round in 0..TURN_LIMIT + 1 {
             if !is_true(self.eval_condition(condition, progress)?) {

@@ -7,9 +7,9 @@ ghost use Rattle.strc_syntax.specs.declared.tree.Role.TheVariants as roles;
 ghost use Rattle.strc_elab.specs.Elaboration as spec;
 ghost use Rattle.strc_statements.specs.Texts as texts;
 ghost use Rattle.strc_statements.specs.Saying.{store_of};
-ghost use Rattle.strc_elab.specs.Answering.{progress_of, Binds, Runs, Stands, IsFrom};
+ghost use Rattle.strc_elab.specs.Answering.{progress_of, Binds, Runs, Traces, IsFrom};
 ghost use Rattle.strc_elab.specs.Assembly.{elaborated_by};
-ghost use Rattle.strc_elab.specs.Places.{child_place, found_place};
+ghost use Rattle.strc_elab.specs.Places.{child_trace, found_trace, with_child};
 ghost use Rattle.strc_elab.specs.Sources.{named_source, declaration_source, text_source};
 ghost use Rattle.strc_elab.specs.Tasks.{IsReady, setting_of, tracing_of, program_of};
 ghost use Rattle.strc_elab.specs.Tasks.{text_view};
@@ -49,9 +49,9 @@ impl<F: Fn(Task) -> Result<Elaborated, PlacedError>> Body<'_, F> {
             (progress_of progress.old)) result (progress_of progress.new) }
         ensures names { OnOk result (progress.new.store.variables.names
             ≡ progress.old.store.variables.names) }
-        ensures here { Stands result (child_place (tracing_of self.now.task)
-            progress.old.store.variables.names child.now (progress_of progress.old)
-            progress.old.here) progress.old.here progress.new.here }
+        ensures trace { Traces result (child_trace (tracing_of self.now.task)
+            progress.old.store.variables.names role child.now (progress_of progress.old)
+            progress.old.trace) progress.new.trace }
     {
         match child {
             Child::Named(name, Some(arguments)) => self.named(role, name, arguments, progress),
@@ -86,12 +86,12 @@ impl<F: Fn(Task) -> Result<Elaborated, PlacedError>> Body<'_, F> {
             (progress_of progress.old)) result (progress_of progress.new) }
         ensures names { OnOk result (progress.new.store.variables.names
             ≡ progress.old.store.variables.names) }
-        ensures here { Stands result (found_place (tracing_of self.now.task)
-            (spec.named_found (setting_of self.now.task) progress.old.store.variables.names name.now
-            (texts.declared_from 0 (program_of self.now.task) name.now)
-            (map expr_view arguments.now) (store_of progress.old.store))
-            (named_source self.now.task.declarations.now name.now) (progress_of progress.old)
-            progress.old.here) progress.old.here progress.new.here }
+        ensures trace { Traces result (found_trace (tracing_of self.now.task) role (spec.named_found
+            (setting_of self.now.task) progress.old.store.variables.names name.now
+            (texts.declared_from 0 (program_of self.now.task) name.now) (map expr_view
+            arguments.now) (store_of progress.old.store)) (named_source
+            self.now.task.declarations.now name.now) (progress_of progress.old) progress.old.trace)
+            progress.new.trace }
     {
         match declared(&self.task, name.as_bytes()) {
             Some((number, declaration)) => self.call(
@@ -125,11 +125,13 @@ impl<F: Fn(Task) -> Result<Elaborated, PlacedError>> Body<'_, F> {
             (progress_of progress.new) }
         ensures names { OnOk result (progress.new.store.variables.names
             ≡ progress.old.store.variables.names) }
-        ensures here { Stands result (found_place (tracing_of self.now.task)
-            (spec.named_found (setting_of self.now.task) progress.old.store.variables.names []
-            (Some (number, declaration_view declaration.now)) (map expr_view arguments.now)
-            (store_of progress.old.store)) (declaration_source declaration.now)
-            (progress_of progress.old) progress.old.here) progress.old.here progress.new.here }
+        ensures trace { Traces result (found_trace (tracing_of self.now.task) role (spec.named_found
+            (setting_of self.now.task) progress.old.store.variables.names [] (Some (
+              number,
+              declaration_view declaration.now,
+            )) (map expr_view arguments.now) (store_of
+            progress.old.store)) (declaration_source declaration.now) (progress_of progress.old)
+            progress.old.trace) progress.new.trace }
     {
         let parameters = parameters_of(declaration);
         if arguments.len() != parameters.len() {
@@ -180,10 +182,10 @@ impl<F: Fn(Task) -> Result<Elaborated, PlacedError>> Body<'_, F> {
             (progress_of progress.old)) result (progress_of progress.new) }
         ensures names { OnOk result (progress.new.store.variables.names
             ≡ progress.old.store.variables.names) }
-        ensures here { Stands result (found_place (tracing_of self.now.task)
-            (Ok (spec.unnamed_found (setting_of self.now.task) progress.old.store.variables.names
+        ensures trace { Traces result (found_trace (tracing_of self.now.task) role (Ok
+            (spec.unnamed_found (setting_of self.now.task) progress.old.store.variables.names
             (text_view text.entry) (store_of progress.old.store))) (text_source text.entry)
-            (progress_of progress.old) progress.old.here) progress.old.here progress.new.here }
+            (progress_of progress.old) progress.old.trace) progress.new.trace }
     {
         let constants = captures(
             self.task.alloc,
@@ -209,10 +211,10 @@ impl<F: Fn(Task) -> Result<Elaborated, PlacedError>> Body<'_, F> {
             (progress_of progress.old)) result (progress_of progress.new) }
         ensures names { OnOk result (progress.new.store.variables.names
             ≡ progress.old.store.variables.names) }
-        ensures here { Stands result (found_place (tracing_of self.now.task)
-            (Ok (spec.built_in_found (setting_of self.now.task) (text_view text.entry)
-            (store_of progress.old.store))) (text_source text.entry) (progress_of progress.old)
-            progress.old.here) progress.old.here progress.new.here }
+        ensures trace { Traces result (found_trace (tracing_of self.now.task) role (Ok
+            (spec.built_in_found (setting_of self.now.task) (text_view text.entry) (store_of
+            progress.old.store))) (text_source text.entry) (progress_of progress.old)
+            progress.old.trace) progress.new.trace }
     {
         let constants = Constants::new(self.task.alloc);
         self.elaborated(
@@ -248,15 +250,15 @@ impl<F: Fn(Task) -> Result<Elaborated, PlacedError>> Body<'_, F> {
             (progress_of progress.old)) result (progress_of progress.new) }
         ensures names { OnOk result (progress.new.store.variables.names
             ≡ progress.old.store.variables.names) }
-        ensures here { Stands result (found_place (tracing_of self.now.task)
+        ensures trace { Traces result (found_trace (tracing_of self.now.task) role
             (Ok (record {
               place = record { declaration = declaration; constants = constants.now };
               text =
                   text_view text.entry;
               store = store_of progress.old.store;
             }))
-            (text_source text.entry) (progress_of progress.old) progress.old.here)
-            progress.old.here progress.new.here }
+            (text_source text.entry) (progress_of progress.old) progress.old.trace)
+            progress.new.trace }
     {
         let answer = (self.elaborate)(Task {
             alloc: self.task.alloc,
@@ -268,10 +270,10 @@ impl<F: Fn(Task) -> Result<Elaborated, PlacedError>> Body<'_, F> {
             text,
             totals: progress.totals(),
         });
-        let elaborated = given_below(in_own_text(own, answer), &mut progress.here)?;
+        let elaborated = given_below(in_own_text(own, answer), &mut progress.trace.here)?;
         progress.store.turns = elaborated.totals.turns;
         progress.filters = elaborated.totals.filters;
-        let stream = added_here(self.task.alloc, progress.here, elaborated.stream)?;
+        let stream = added_here(self.task.alloc, progress.trace.here, elaborated.stream)?;
         match role {
             Role::Add => self.add(stream, elaborated.types, progress),
             Role::Body => self.set_body(stream, elaborated.types, progress),
@@ -291,13 +293,16 @@ impl<F: Fn(Task) -> Result<Elaborated, PlacedError>> Body<'_, F> {
             (elaborated_by progress.old stream types)) result (progress_of progress.new) }
         ensures names { OnOk result (progress.new.store.variables.names
             ≡ progress.old.store.variables.names) }
-        ensures here { progress.new.here ≡ progress.old.here }
+        ensures trace { Traces result (with_child progress.old.types.items progress.old.trace)
+            progress.new.trace }
     {
         if !progress.may_add(types) {
             return self.mismatch(Mismatch::Follows);
         }
+        let trace = progress.trace.with_child(&progress.types);
         progress.children.push(stream)?;
         progress.types.push(types)?;
+        progress.trace = trace;
         Ok(())
     }
 
@@ -313,7 +318,7 @@ impl<F: Fn(Task) -> Result<Elaborated, PlacedError>> Body<'_, F> {
             (elaborated_by progress.old stream types)) result (progress_of progress.new) }
         ensures names { OnOk result (progress.new.store.variables.names
             ≡ progress.old.store.variables.names) }
-        ensures here { progress.new.here ≡ progress.old.here }
+        ensures trace { progress.new.trace ≡ progress.old.trace }
     {
         if !passes_items(types) {
             return self.mismatch(Mismatch::LoopChild);
@@ -334,7 +339,7 @@ impl<F: Fn(Task) -> Result<Elaborated, PlacedError>> Body<'_, F> {
             (elaborated_by progress.old stream types)) result (progress_of progress.new) }
         ensures names { OnOk result (progress.new.store.variables.names
             ≡ progress.old.store.variables.names) }
-        ensures here { progress.new.here ≡ progress.old.here }
+        ensures trace { progress.new.trace ≡ progress.old.trace }
     {
         if !passes_items(types) {
             return self.mismatch(Mismatch::LoopChild);

@@ -5,9 +5,9 @@ ghost use Rattle.strc_syntax.specs.View.{expr_view, composition_view, child_view
 ghost use Rattle.strc_syntax.specs.Tree as tree;
 ghost use Rattle.strc_statements.specs.Saying.{store_of};
 ghost use Rattle.strc_statements.specs.declared.error.ElabErrorKind.TheVariants as refused;
-ghost use Rattle.strc_elab.specs.Answering.{progress_of, Runs, Lists, Splits, Stands};
+ghost use Rattle.strc_elab.specs.Answering.{progress_of, Runs, Lists, Splits, Traces};
 ghost use Rattle.strc_elab.specs.Elaboration as spec;
-ghost use Rattle.strc_elab.specs.Places.{composed_place, added_place};
+ghost use Rattle.strc_elab.specs.Places.{composed_trace, added_trace, with_split, with_join};
 ghost use Rattle.strc_elab.specs.Tasks.{IsReady, setting_of, tracing_of};
 
 use crate::body::Body;
@@ -43,9 +43,9 @@ impl<F: Fn(Task) -> Result<Elaborated, PlacedError>> Body<'_, F> {
             (progress_of progress.old)) result (progress_of progress.new) }
         ensures names { OnOk result (progress.new.store.variables.names
             ≡ progress.old.store.variables.names) }
-        ensures here { Stands result (composed_place (tracing_of self.now.task)
+        ensures trace { Traces result (composed_trace (tracing_of self.now.task)
             progress.old.store.variables.names composition.now (progress_of progress.old)
-            progress.old.here) progress.old.here progress.new.here }
+            progress.old.trace) progress.new.trace }
     {
         match composition {
             Composition::Child(role, child) => self.child_for(*role, child, progress),
@@ -71,9 +71,9 @@ impl<F: Fn(Task) -> Result<Elaborated, PlacedError>> Body<'_, F> {
             (progress_of progress.old)) result (progress_of progress.new) }
         ensures names { OnOk result (progress.new.store.variables.names
             ≡ progress.old.store.variables.names) }
-        ensures here { Stands result (added_place (tracing_of self.now.task)
+        ensures trace { Traces result (added_trace (tracing_of self.now.task)
             progress.old.store.variables.names role child.now (progress_of progress.old)
-            progress.old.here) progress.old.here progress.new.here }
+            progress.old.trace) progress.new.trace }
     {
         if progress.may_have(role) {
             self.child(role, child, progress)
@@ -89,14 +89,14 @@ impl<F: Fn(Task) -> Result<Elaborated, PlacedError>> Body<'_, F> {
             (progress_of progress.old)) result (progress_of progress.new) }
         ensures names { OnOk result (progress.new.store.variables.names
             ≡ progress.old.store.variables.names) }
-        ensures here { progress.new.here ≡ progress.old.here }
+        ensures trace { Traces result (with_split progress.old.trace) progress.new.trace }
     {
         if !progress.may_split() {
             return self.mismatch(progress.no_room_for(Part::Split));
         }
         let split = self.split_of(splitter, &mut progress.store)?;
         progress.split = Some(split);
-        progress.split_place = progress.here;
+        progress.trace.split = progress.trace.here;
         Ok(())
     }
 
@@ -107,14 +107,14 @@ impl<F: Fn(Task) -> Result<Elaborated, PlacedError>> Body<'_, F> {
             (progress_of progress.old)) result (progress_of progress.new) }
         ensures names { OnOk result (progress.new.store.variables.names
             ≡ progress.old.store.variables.names) }
-        ensures here { progress.new.here ≡ progress.old.here }
+        ensures trace { Traces result (with_join progress.old.trace) progress.new.trace }
     {
         if !progress.may_join() {
             return self.mismatch(progress.no_room_for(Part::Join));
         }
         let join = self.values(weights, &mut progress.store)?;
         progress.join = Some(join);
-        progress.join_place = progress.here;
+        progress.trace.join = progress.trace.here;
         Ok(())
     }
 
@@ -125,7 +125,7 @@ impl<F: Fn(Task) -> Result<Elaborated, PlacedError>> Body<'_, F> {
             (progress_of progress.old)) result (progress_of progress.new) }
         ensures names { OnOk result (progress.new.store.variables.names
             ≡ progress.old.store.variables.names) }
-        ensures here { progress.new.here ≡ progress.old.here }
+        ensures trace { progress.new.trace ≡ progress.old.trace }
     {
         if !progress.may_enqueue() {
             return self.mismatch(progress.no_room_for(Part::Enqueue));

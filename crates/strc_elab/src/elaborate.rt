@@ -49,8 +49,10 @@ pub fn elaborate(alloc: Global, program: &Program, main: Option<&str>) -> Result
 }
 
 /// The same; a refusal has the place of the innermost statement that ran, or in a filter's text of
-/// the innermost statement, rate or declaration of fields around what breaks the rule. It has none
-/// where there is no such statement, and any where memory runs out.
+/// the innermost statement, rate or declaration of fields around what breaks the rule. Weights that
+/// aren't allowed are at the statement that said `split` or `join`, ends of a pipeline that don't
+/// fit at the one that added the first or the last child. It has none where there is no such
+/// statement, and any where memory runs out.
 pub fn elaborate_placed(
     alloc: Global,
     program: &Program,

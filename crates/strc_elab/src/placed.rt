@@ -1,6 +1,7 @@
 // Why a program isn't elaborated, and where.
 
 ghost use Rattle.std.specs.Prelude.{◌≡◌, None};
+ghost use Rattle.strc_elab.specs.Answering.{refused_at as refused_at_place};
 ghost use Rattle.strc_statements.specs.declared.error.ElabErrorKind.TheVariants as refused;
 
 use std::alloc::AllocError;
@@ -28,5 +29,18 @@ impl From<AllocError> for PlacedError {
 
     fn from(error: AllocError) -> PlacedError {
         PlacedError::from(ElabError::from(error))
+    }
+}
+
+/// An answer; where it is a refusal, at this place.
+pub(crate) fn refused_at<T>(
+    place: Option<Span>,
+    answer: Result<T, ElabError>,
+) -> Result<T, PlacedError>
+    ensures { result ≡ refused_at_place place answer }
+{
+    match answer {
+        Ok(value) => Ok(value),
+        Err(error) => Err(PlacedError { error, place }),
     }
 }

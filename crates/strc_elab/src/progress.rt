@@ -5,7 +5,7 @@ ghost use Rattle.strc_elab.specs.Elaboration as spec;
 ghost use Rattle.strc_elab.specs.Answering.{progress_of};
 
 use crate::task::Totals;
-use strc_base::place::Span;
+use crate::trace::Trace;
 use strc_check::site::{Mismatch, Part};
 use strc_statements::store::Store;
 use strc_statements::weights::Split;
@@ -15,7 +15,7 @@ use strc_syntax::tree::{CompositeKind, Role, StreamType};
 
 /// What its stream statements have said so far: the children of `add` with their types, the weights
 /// of `split` and `join`, body and loop, and the enqueued items; its variables and the iterations
-/// so far, and how many filters there are. Of places, contracts see only `here`.
+/// so far, and how many filters there are; and the statements that said this.
 #[derive(Drop)]
 pub(crate) struct Progress {
     pub(crate) kind: CompositeKind,
@@ -28,12 +28,7 @@ pub(crate) struct Progress {
     pub(crate) looped: Option<Box<Stream>>,
     pub(crate) enqueued: Vec<i32>,
     pub(crate) filters: u32,
-    /// The innermost statement that runs, where its place is known; after a refusal, the one that
-    /// was refused.
-    pub(crate) here: Option<Span>,
-    /// The statements that said `split` and `join`.
-    pub(crate) split_place: Option<Span>,
-    pub(crate) join_place: Option<Span>,
+    pub(crate) trace: Trace,
 }
 
 fn is_pipeline(kind: CompositeKind) -> bool

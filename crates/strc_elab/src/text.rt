@@ -7,8 +7,9 @@ ghost use Rattle.strc_semantics.specs.Filters.{filter_of, filter_parts};
 ghost use Rattle.strc_semantics.specs.Firing as firing;
 ghost use Rattle.strc_elab.specs.Elaboration as spec;
 ghost use Rattle.strc_statements.specs.Answers.{IsVerdict};
-ghost use Rattle.strc_elab.specs.Answering.{progress_of, IsPlacedVerdict, IsPlaced};
-ghost use Rattle.strc_elab.specs.Places.{instance_place, block_place, composite_place, text_place};
+ghost use Rattle.strc_elab.specs.Answering.{progress_of, IsPlacedVerdict, IsPlaced, IsTraced};
+ghost use Rattle.strc_elab.specs.Places.{instance_place, block_trace, composite_place, text_place};
+ghost use Rattle.strc_elab.specs.Places.{no_trace};
 ghost use Rattle.strc_elab.specs.Sources.{FilterSource, text_source};
 ghost use Rattle.strc_elab.specs.Totals.{totals_view};
 ghost use Rattle.strc_elab.specs.Tasks.{IsReady, setting_of, tracing_of, place_of, totals_of};
@@ -19,6 +20,7 @@ use crate::body::Body;
 use crate::placed::PlacedError;
 use crate::progress::Progress;
 use crate::task::{Elaborated, Task, Text, Totals};
+use crate::trace::Trace;
 use std::alloc::{AllocError, Global};
 use strc_base::name::{Name, StringLiteral};
 use strc_code::code::Code;
@@ -180,7 +182,7 @@ impl Task<'_> {
     fn initial_progress(&self, kind: CompositeKind) -> Progress
         ensures progress { progress_of result ≡ spec.initial_progress kind (totals_of self.now) }
         ensures names { result.store.variables.names ≡ [] }
-        ensures here { result.here ≡ None }
+        ensures trace { result.trace ≡ no_trace }
     {
         Progress {
             kind,
@@ -196,9 +198,7 @@ impl Task<'_> {
             looped: None,
             enqueued: Vec::new(self.alloc),
             filters: self.totals.filters,
-            here: None,
-            split_place: None,
-            join_place: None,
+            trace: Trace::none(),
         }
     }
 }
@@ -228,20 +228,20 @@ impl<F: Fn(Task) -> Result<Elaborated, PlacedError>> Body<'_, F> {
         ensures verdict { IsPlacedVerdict progress_of (spec.stmts_run (setting_of self.now.task) []
             0 (block_view block.now) (spec.initial_progress kind (totals_of self.now.task)))
             result }
-        ensures place { IsPlaced (block_place (tracing_of self.now.task) [] 0 block.now
-            (spec.initial_progress kind (totals_of self.now.task)) None) result }
+        ensures place { IsTraced (block_trace (tracing_of self.now.task) [] 0 block.now
+            (spec.initial_progress kind (totals_of self.now.task)) no_trace) result }
     {
         let mut progress = self.task.initial_progress(kind);
         match self.statements(0, block, &mut progress) {
             Ok(()) => Ok(progress),
             Err(error) => Err(PlacedError {
                 error,
-                place: progress.here,
+                place: progress.trace.here,
             }),
         }
     }
 
-    /// A composite stream: its body runs.
+    /// A composite stream: its body runs, and what it says is assembled.
     fn composite(
         &self,
         written: Option<StreamType>,
@@ -252,10 +252,10 @@ impl<F: Fn(Task) -> Result<Elaborated, PlacedError>> Body<'_, F> {
         ensures verdict { IsPlacedVerdict elaborated_view
             (spec.composite_elaborated (setting_of self.now.task) written
             kind (block_view block.now) (totals_of self.now.task)) result }
-        ensures place { IsPlaced (composite_place (tracing_of self.now.task) kind block.now
+        ensures place { IsPlaced (composite_place (tracing_of self.now.task) written kind block.now
             (totals_of self.now.task)) result }
     {
         let mut progress = self.run(kind, block)?;
-        Ok(self.task.composite_assembly(kind, written, &mut progress)?)
+        self.task.composite_assembly(kind, written, &mut progress)
     }
 }

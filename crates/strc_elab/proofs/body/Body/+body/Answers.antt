@@ -13,23 +13,26 @@ use Rattle.strc_elab.specs.Elaboration as spec
 use Rattle.strc_statements.specs.Statements.{computed}
 use Rattle.strc_elab.specs.Elaboration.{condition_evaluated, inside, stmt_run, stmts_run}
 use Rattle.strc_statements.specs.Answers.{IsRefusal}
-use Rattle.strc_elab.specs.Answering.{Runs, progress_of, Stands, IsPlaceOf}
-use Rattle.strc_elab.specs.Places.{place_after, stmt_place, block_place, while_place, for_place}
-use Rattle.strc_elab.specs.Places.{for_turns_place, turn_place}
+use Rattle.strc_elab.specs.Answering.{Runs, progress_of, Traces, IsPlaceOf}
+use Rattle.strc_elab.specs.Elaboration.{Progress}
+use Rattle.strc_elab.specs.Places.{stmt_trace, placed_trace, block_trace, while_trace, for_trace}
+use Rattle.strc_elab.specs.Places.{for_turns_trace, turn_trace}
+use Rattle.strc_elab.specs.declared.trace.Trace.{Trace}
 use Rattle.strc_elab.specs.Loops.{while_looped, for_looped}
 use Rattle.strc_statements.specs.Saying.{store_of}
 use Rattle.strc_elab.specs.Tasks.{setting_of, tracing_of}
 use Rattle.strc_elab.proofs.Bodies.{inside_refused, inside_ran, left_is, block_is, block_names_left}
 use Rattle.strc_elab.proofs.Bodies.{statement_names_left, stmts_go_on, names_go_on, chosen_runs}
 use Rattle.strc_elab.proofs.Bodies.{seen_condition, for_runs, stmts_refused}
-use Rattle.strc_elab.proofs.BodyPlaces.{blocks_go_on, block_placed, stmt_place-Block, chosen_place}
-use Rattle.strc_elab.proofs.LoopPlaces.{Where, test_placed, turn_placed, body_placed, place_goes_on}
-use Rattle.strc_elab.proofs.LoopPlaces.{place_over}
+use Rattle.strc_elab.proofs.BodyPlaces.{blocks_go_on, block_placed, stmt_trace-Block, chosen_trace}
+use Rattle.strc_elab.proofs.LoopPlaces.{Turn, test_placed, turn_placed, body_placed, trace_goes_on}
+use Rattle.strc_elab.proofs.LoopPlaces.{trace_ends, trace_over}
 use Rattle.strc_elab.proofs.LoopRuns.{Test, Step, test_refused, loop_ends, turn_refused}
 use Rattle.strc_elab.proofs.LoopRuns.{body_refused, loop_goes_on, loop_over}
 use Rattle.strc_statements.proofs.Refusals.{refused_same, first_refused, second_refused, both_done}
 use Rattle.strc_elab.proofs.Places.{placed_same, placed_at, placed_among, first_placed}
-use Rattle.strc_elab.proofs.Places.{second_placed, stands_same, stands_among}
+use Rattle.strc_elab.proofs.Places.{second_placed, place_after_done, both_traced, moved_among}
+use Rattle.strc_elab.proofs.Places.{traces_same, traces_among}
 use Rattle.strc_elab.proofs.body.Body.+body.Goals as goal
 
 pub inside-returns-clause-runs : goal.inside-returns-clause-runs
@@ -63,14 +66,14 @@ statements-loop-statement-preserved g t c =
       names = names_go_on names c.statement.new.progress.store.variables.names items i x
           c.loop-statement-test.true c.statement-item.is c.in_ok-statement.ensures.names
           ∙ c.loop-statement.invariant.names;
-      here = c.in_ok-statement.ensures.here ∙ c.loop-statement.invariant.here;
-      place = blocks_go_on (tracing_of c.args.self.now.task) names
+      trace = blocks_go_on (tracing_of c.args.self.now.task) names
           c.statement.new.progress.store.variables.names c.args.start items i x
           (progress_of c.loop-statement.progress)
-          (progress_of c.statement.new.progress) c.args.progress.now.here
-          c.loop-statement-test.true c.statement-item.is
+          (progress_of c.statement.new.progress) c.loop-statement.progress.trace
+          c.statement.new.progress.trace c.loop-statement-test.true c.statement-item.is
           c.in_ok-statement.ensures.runs c.in_ok-statement.ensures.names
-          ∙ c.loop-statement.invariant.place;
+          c.in_ok-statement.ensures.trace
+          ∙ c.loop-statement.invariant.trace;
     }
 
 pub inside-returns-in_err-statement-clause-runs : goal.inside-returns-in_err-statement-clause-runs
@@ -377,11 +380,10 @@ while_turns-loop-round-init g t c =
           ap (λ n. while_looped (setting_of c.args.self.now.task)
           c.args.progress.now.store.variables.names (expr_view c.args.condition.now)
           (stmt_view c.args.body.now) n (progress_of c.args.progress.now)) same;
-      here = refl;
-      place = λ fuel e. let same : fuel ≡ suc turn_limit = omega (arith, e) in
-          ap (λ n. while_place (tracing_of c.args.self.now.task)
+      trace = λ fuel e. let same : fuel ≡ suc turn_limit = omega (arith, e) in
+          ap (λ n. while_trace (tracing_of c.args.self.now.task)
           c.args.progress.now.store.variables.names (expr_view c.args.condition.now)
-          c.args.body.now c.args.progress.now.here n (progress_of c.args.progress.now)) same;
+          c.args.body.now n (progress_of c.args.progress.now) c.args.progress.now.trace) same;
     }
 
 pub while_turns-returns-in_err-eval_condition-clause-runs :
@@ -516,20 +518,22 @@ while_turns-loop-round-preserved g t c =
     (λ n. inside (stmt_run setting n (length n) (stmt_view c.args.body.now)) turning
     ≡ Ok after) same c.in_ok-inside.ensures.runs in
     let tracing = tracing_of c.args.self.now.task in
-    let here = c.args.progress.now.here in
-    let place : Where = λ turning.
-    stmt_place tracing names (length names) c.args.body.now turning here in
-    let where_whole = while_place tracing names (expr_view c.args.condition.now) c.args.body.now
-    here (suc turn_limit) (progress_of c.args.progress.now) in
-    let still : c.eval_condition.new.progress.here ≡ here =
-    c.eval_condition.ensures.here ∙ c.loop-round.invariant.here in
+    let trace = c.loop-round.progress.trace in
+    let trace' = c.inside.new.progress.trace in
+    let s = c.args.body.now in
+    let traced : Turn = stmt_trace tracing names (length names) s in
+    let whole_trace = while_trace tracing names (expr_view c.args.condition.now) s (suc turn_limit)
+    (progress_of c.args.progress.now) c.args.progress.now.trace in
+    let moved : trace' ≡ traced turning trace =
+    moved_among (λ n t. stmt_trace tracing n (length n) s turning t) names
+    c.turn.new.store.variables.names trace c.eval_condition.new.progress.trace trace' same
+    c.eval_condition.ensures.trace c.in_ok-inside.ensures.trace in
     record {
       names = c.in_ok-inside.ensures.names ∙ same;
       left = loop_goes_on test body round m tested after value store whole c.loop-round-test.true
           left met holds turn ran;
-      here = c.in_ok-inside.ensures.here ∙ still;
-      place = place_goes_on test body place here round m tested after value store where_whole
-          c.loop-round-test.true c.loop-round.invariant.place met holds turn ran;
+      trace = trace_goes_on test body traced round m tested after value store trace trace'
+          whole_trace c.loop-round-test.true c.loop-round.invariant.trace met holds turn ran moved;
     }
 
 pub while_turns-returns-clause-runs : goal.while_turns-returns-clause-runs
@@ -557,12 +561,11 @@ for_turns-loop-round-init g t c =
           c.args.progress.now.store.variables.names
           (option_map (λ e. expr_view e.now) c.args.condition) (stmt_view c.args.step.now)
           (stmt_view c.args.body.now) n (progress_of c.args.progress.now)) same;
-      here = refl;
-      place = λ fuel e. let same : fuel ≡ suc turn_limit = omega (arith, e) in
-          ap (λ n. for_turns_place (tracing_of c.args.self.now.task)
+      trace = λ fuel e. let same : fuel ≡ suc turn_limit = omega (arith, e) in
+          ap (λ n. for_turns_trace (tracing_of c.args.self.now.task)
           c.args.progress.now.store.variables.names
           (option_map (λ e. expr_view e.now) c.args.condition) c.args.step.now
-          c.args.body.now c.args.progress.now.here n (progress_of c.args.progress.now)) same;
+          c.args.body.now n (progress_of c.args.progress.now) c.args.progress.now.trace) same;
     }
 
 pub for_turns-returns-in_err-eval_condition-clause-runs :
@@ -757,19 +760,30 @@ for_turns-loop-round-preserved g t c =
     ≡ Ok next) same' c.in_ok-inside-2.ensures.runs in
     let both : body turning ≡ Ok next = both_done (turns turning) steps after next ran stepped in
     let tracing = tracing_of c.args.self.now.task in
-    let here = c.args.progress.now.here in
-    let place : Where = turn_place tracing names c.args.step.now c.args.body.now here in
-    let where_whole = for_turns_place tracing names condition c.args.step.now c.args.body.now here
-    (suc turn_limit) (progress_of c.args.progress.now) in
-    let still : c.eval_condition.new.progress.here ≡ here =
-    c.eval_condition.ensures.here ∙ c.loop-round.invariant.here in
+    let trace = c.loop-round.progress.trace in
+    let trace' = c.inside.new.progress.trace in
+    let trace'' = c.inside-in-loop-round.new.progress.trace in
+    let s = c.args.body.now in
+    let s' = c.args.step.now in
+    let traced : Turn = turn_trace tracing names s' s in
+    let own = stmt_trace tracing names (length names) s turning trace in
+    let whole_trace = for_turns_trace tracing names condition s' s (suc turn_limit)
+    (progress_of c.args.progress.now) c.args.progress.now.trace in
+    let moved : trace' ≡ own =
+    moved_among (λ n t. stmt_trace tracing n (length n) s turning t) names
+    c.turn.new.store.variables.names trace c.eval_condition.new.progress.trace trace' same
+    c.eval_condition.ensures.trace c.in_ok-inside.ensures.trace in
+    let moved' : trace'' ≡ stmt_trace tracing names (length names) s' after trace' =
+    subst (λ n. trace'' ≡ stmt_trace tracing n (length n) s' after trace') same'
+    c.in_ok-inside-2.ensures.trace in
     record {
       names = c.in_ok-inside-2.ensures.names ∙ same';
       left = loop_goes_on test body round m tested next value store whole c.loop-round-test.true
           left met holds turn both;
-      here = c.in_ok-inside-2.ensures.here ∙ c.in_ok-inside.ensures.here ∙ still;
-      place = place_goes_on test body place here round m tested next value store where_whole
-          c.loop-round-test.true c.loop-round.invariant.place met holds turn both;
+      trace = trace_goes_on test body traced round m tested next value store trace trace''
+          whole_trace c.loop-round-test.true c.loop-round.invariant.trace met holds turn both
+          (both_traced (turns turning) own (stmt_trace tracing names (length names) s') after trace'
+          trace'' ran moved moved');
     }
 
 pub for_turns-returns-clause-runs : goal.for_turns-returns-clause-runs
@@ -792,328 +806,480 @@ for_turns-returns-clause-runs g t c =
 
 -- ---- places
 
-pub inside-returns-in_err-statement-clause-here : goal.inside-returns-in_err-statement-clause-here
-inside-returns-in_err-statement-clause-here g t c =
+pub inside-returns-in_err-statement-clause-trace : goal.inside-returns-in_err-statement-clause-trace
+inside-returns-in_err-statement-clause-trace g t c =
     let tracing = tracing_of c.args.self.now.task in
     let names = c.args.progress.now.store.variables.names in
     let p = progress_of c.args.progress.now in
-    let here = c.args.progress.now.here in
+    let trace = c.args.progress.now.trace in
+    let s = c.args.statement.now in
     let e = c.in_err-statement.field-0.0 in
-    let found = c.statement.new.progress.here in
-    let reported : Stands {X = Unit {0}} (Err e)
-    (stmt_place tracing names (length names) c.args.statement.now p here) here found =
-    subst (λ n. IsPlaceOf e (stmt_place tracing names n c.args.statement.now p here) found)
-    c.count-start.ensures.names c.in_err-statement.ensures.here in
+    let after = c.statement.new.progress.trace in
+    let reported : Traces {X = Unit {0}} (Err e) (stmt_trace tracing names (length names) s p trace)
+    after = subst (λ n. IsPlaceOf e (stmt_trace tracing names n s p trace).here after.here)
+    c.count-start.ensures.names c.in_err-statement.ensures.trace in
     search rules
 
-pub block-returns-in_err-statements-clause-here : goal.block-returns-in_err-statements-clause-here
-block-returns-in_err-statements-clause-here g t c =
+pub inside-returns-clause-trace : goal.inside-returns-clause-trace
+inside-returns-clause-trace g t c =
     let tracing = tracing_of c.args.self.now.task in
     let names = c.args.progress.now.store.variables.names in
     let p = progress_of c.args.progress.now in
-    let here = c.args.progress.now.here in
+    let trace = c.args.progress.now.trace in
+    subst (λ n. c.statement.new.progress.trace
+    ≡ stmt_trace tracing names n c.args.statement.now p trace) c.count-start.ensures.names
+    c.in_ok-statement.ensures.trace
+
+pub block-returns-in_err-statements-clause-trace : goal.block-returns-in_err-statements-clause-trace
+block-returns-in_err-statements-clause-trace g t c =
+    let tracing = tracing_of c.args.self.now.task in
+    let names = c.args.progress.now.store.variables.names in
+    let p = progress_of c.args.progress.now in
+    let trace = c.args.progress.now.trace in
+    let block = c.args.block.now in
     let e = c.in_err-statements.field-0.0 in
-    let found = c.statements.new.progress.here in
-    let reported : Stands {X = Unit {0}} (Err e)
-    (block_place tracing names (length names) c.args.block.now p here) here found =
-    subst (λ n. IsPlaceOf e (block_place tracing names n c.args.block.now p here) found)
-    c.count-start.ensures.names c.in_err-statements.ensures.here in
+    let after = c.statements.new.progress.trace in
+    let reported : Traces {X = Unit {0}} (Err e)
+    (block_trace tracing names (length names) block p trace) after =
+    subst (λ n. IsPlaceOf e (block_trace tracing names n block p trace).here after.here)
+    c.count-start.ensures.names c.in_err-statements.ensures.trace in
     search rules
 
-pub statements-returns-in_err-statement-clause-here :
-    goal.statements-returns-in_err-statement-clause-here
-statements-returns-in_err-statement-clause-here g t c =
+pub block-returns-clause-trace : goal.block-returns-clause-trace
+block-returns-clause-trace g t c =
     let tracing = tracing_of c.args.self.now.task in
     let names = c.args.progress.now.store.variables.names in
     let p = progress_of c.args.progress.now in
-    let here = c.args.progress.now.here in
+    let trace = c.args.progress.now.trace in
+    subst (λ n. c.statements.new.progress.trace
+    ≡ block_trace tracing names n c.args.block.now p trace) c.count-start.ensures.names
+    c.in_ok-statements.ensures.trace
+
+pub statements-returns-in_err-statement-clause-trace :
+    goal.statements-returns-in_err-statement-clause-trace
+statements-returns-in_err-statement-clause-trace g t c =
+    let tracing = tracing_of c.args.self.now.task in
+    let names = c.args.progress.now.store.variables.names in
+    let p = progress_of c.args.progress.now in
+    let trace = c.args.progress.now.trace in
     let items = c.args.block.now in
     let start = c.args.start in
     let i = c.loop-statement.statement-index in
     let x = c.statement-item.result in
     let m = progress_of c.loop-statement.progress in
     let names' = c.loop-statement.progress.store.variables.names in
+    let trace' = c.loop-statement.progress.trace in
     let e = c.in_err-statement.field-0.0 in
-    let found = c.statement.new.progress.here in
-    let at : IsPlaceOf e (stmt_place tracing names' start x m here) found =
-    subst (λ h. IsPlaceOf e (stmt_place tracing names' start x m h) found)
-    c.loop-statement.invariant.here c.in_err-statement.ensures.here in
-    let left = block_placed tracing names' start items i x m here found e
-    c.loop-statement-test.true c.statement-item.is c.in_err-statement.ensures.runs at in
-    let reported : Stands {X = Unit {0}} (Err e) (block_place tracing names start items p here) here
-    found = placed_same e (block_place tracing names' start (drop i items) m here)
-    (block_place tracing names start items p here) found
-    (sym c.loop-statement.invariant.place) left in
+    let after = c.statement.new.progress.trace in
+    let left = block_placed tracing names' start items i x m trace' after.here e
+    c.loop-statement-test.true c.statement-item.is c.in_err-statement.ensures.runs
+    c.in_err-statement.ensures.trace in
+    let whole = block_trace tracing names start items p trace in
+    let reported : Traces {X = Unit {0}} (Err e) whole after =
+    placed_same e (block_trace tracing names' start (drop i items) m trace').here whole.here
+    after.here (ap (λ t. t.here) (sym c.loop-statement.invariant.trace)) left in
     search rules
 
-pub statement-returns-in-Block-clause-here : goal.statement-returns-in-Block-clause-here
-statement-returns-in-Block-clause-here g t c =
-    let tracing = tracing_of c.args.self.now.task in
-    let names = c.args.progress.now.store.variables.names in
-    let p = progress_of c.args.progress.now in
-    let here = c.args.progress.now.here in
-    let start = c.args.start in
-    let items = c.deref.result.now in
-    let is : stmt_place tracing names start c.args.statement.now p here
-    ≡ block_place tracing names (length names) items p here =
-    ap (λ s. stmt_place tracing names start s p here) c.in-Block.is
-    ∙ stmt_place-Block tracing names start c.in-Block.body p here
-    ∙ ap (λ l. block_place tracing names (length names) l p here) (sym c.deref.ensures.value) in
-    stands_same c.block.result (block_place tracing names (length names) items p here)
-    (stmt_place tracing names start c.args.statement.now p here) here c.block.new.progress.here is
-    c.block.ensures.here
-
-pub statement-returns-then-is_true-clause-here : goal.statement-returns-then-is_true-clause-here
-statement-returns-then-is_true-clause-here g t c =
+pub statement_at-returns-in_err-statement-clause-trace :
+    goal.statement_at-returns-in_err-statement-clause-trace
+statement_at-returns-in_err-statement-clause-trace g t c =
     let setting = setting_of c.args.self.now.task in
     let tracing = tracing_of c.args.self.now.task in
     let names = c.args.progress.now.store.variables.names in
     let p = progress_of c.args.progress.now in
-    let here = c.args.progress.now.here in
+    let trace = c.args.progress.now.trace in
+    let start = c.args.start in
+    let s = c.args.statement.now in
+    let runs = stmt_run setting names start (stmt_view s) p in
+    let own = stmt_trace tracing names start s p (record trace { here = Some c.args.place }) in
+    let e = c.in_err-statement.field-0.0 in
+    let after = c.statement.new.progress.trace in
+    let reported : Traces {X = Unit {0}} (Err e)
+    (placed_trace tracing names start c.args.place s p trace) after =
+    first_placed runs e own after.here (λ done. record own { here = trace.here })
+    c.in_err-statement.ensures.runs c.in_err-statement.ensures.trace in
+    search rules
+
+pub statement_at-returns-clause-trace : goal.statement_at-returns-clause-trace
+statement_at-returns-clause-trace g t c =
+    let setting = setting_of c.args.self.now.task in
+    let tracing = tracing_of c.args.self.now.task in
+    let names = c.args.progress.now.store.variables.names in
+    let p = progress_of c.args.progress.now in
+    let trace = c.args.progress.now.trace in
+    let start = c.args.start in
+    let s = c.args.statement.now in
+    let runs = stmt_run setting names start (stmt_view s) p in
+    let own = stmt_trace tracing names start s p (record trace { here = Some c.args.place }) in
+    ap (λ (t : Trace). record t { here = trace.here }) c.in_ok-statement.ensures.trace
+    ∙ sym (place_after_done runs own (λ done. record own { here = trace.here })
+    (progress_of c.statement.new.progress) c.in_ok-statement.ensures.runs)
+
+pub statement-returns-in-Placed-clause-trace : goal.statement-returns-in-Placed-clause-trace
+statement-returns-in-Placed-clause-trace g t c =
+    let tracing = tracing_of c.args.self.now.task in
+    let names = c.args.progress.now.store.variables.names in
+    let p = progress_of c.args.progress.now in
+    let trace = c.args.progress.now.trace in
+    let start = c.args.start in
+    let s = c.deref-in-Placed.result.now in
+    let own = placed_trace tracing names start c.in-Placed.place s p trace in
+    let is : stmt_trace tracing names start c.args.statement.now p trace ≡ own =
+    ap (λ s. stmt_trace tracing names start s p trace) c.in-Placed.is
+    ∙ ap (λ s. placed_trace tracing names start c.in-Placed.place s p trace)
+    (sym c.deref-in-Placed.ensures) in
+    traces_same c.statement_at.result own
+    (stmt_trace tracing names start c.args.statement.now p trace)
+    c.statement_at.new.progress.trace is c.statement_at.ensures.trace
+
+pub statement-returns-in-Block-clause-trace : goal.statement-returns-in-Block-clause-trace
+statement-returns-in-Block-clause-trace g t c =
+    let tracing = tracing_of c.args.self.now.task in
+    let names = c.args.progress.now.store.variables.names in
+    let p = progress_of c.args.progress.now in
+    let trace = c.args.progress.now.trace in
+    let start = c.args.start in
+    let items = c.deref.result.now in
+    let is : stmt_trace tracing names start c.args.statement.now p trace
+    ≡ block_trace tracing names (length names) items p trace =
+    ap (λ s. stmt_trace tracing names start s p trace) c.in-Block.is
+    ∙ stmt_trace-Block tracing names start c.in-Block.body p trace
+    ∙ ap (λ l. block_trace tracing names (length names) l p trace) (sym c.deref.ensures.value) in
+    traces_same c.block.result (block_trace tracing names (length names) items p trace)
+    (stmt_trace tracing names start c.args.statement.now p trace) c.block.new.progress.trace is
+    c.block.ensures.trace
+
+pub statement-returns-then-is_true-clause-trace : goal.statement-returns-then-is_true-clause-trace
+statement-returns-then-is_true-clause-trace g t c =
+    let setting = setting_of c.args.self.now.task in
+    let tracing = tracing_of c.args.self.now.task in
+    let names = c.args.progress.now.store.variables.names in
+    let p = progress_of c.args.progress.now in
+    let trace = c.args.progress.now.trace in
     let start = c.args.start in
     let condition = expr_view c.in-If.condition in
-    let within : Stmt → Where = λ s. λ tested.
-    stmt_place tracing names (length names) s tested here in
-    let chosen : Where = within c.in-If.chosen.value in
-    let other : Where = λ tested. here in
+    let within : Stmt → Progress → Trace = λ s. λ tested.
+    stmt_trace tracing names (length names) s tested trace in
+    let chosen : Progress → Trace = within c.in-If.chosen.value in
+    let other : Progress → Trace = λ tested. trace in
     let tested = progress_of c.eval_condition.new.progress in
     let value = c.in_ok-eval_condition-in-If.field-0 in
     let truth : c.is_true.result ≡ is_true value = search rules in
     let s = c.deref-then-is_true.result.now in
-    let after = c.inside.new.progress.here in
-    let is : stmt_place tracing names start c.args.statement.now p here
-    ≡ within s tested = ap (λ s. stmt_place tracing names start s p here) c.in-If.is
-    ∙ chosen_place (condition_evaluated setting names (Some condition) p) here chosen other value
-    tested true c.in_ok-eval_condition-in-If.ensures.tests
-    (sym truth ∙ c.if-is_true.true)
+    let after = c.inside.new.progress.trace in
+    let is : stmt_trace tracing names start c.args.statement.now p trace ≡ within s tested =
+    ap (λ s. stmt_trace tracing names start s p trace) c.in-If.is
+    ∙ chosen_trace (condition_evaluated setting names (Some condition) p) trace chosen other value
+    tested true c.in_ok-eval_condition-in-If.ensures.tests (sym truth ∙ c.if-is_true.true)
     ∙ ap (λ s. within s tested) (sym c.deref-then-is_true.ensures) in
-    let ran : Stands c.inside.result (within s tested) here after =
-    stands_among c.inside.result
-    (λ n h. stmt_place tracing n (length n) s tested h) names
-    c.eval_condition.new.progress.store.variables.names here
-    c.eval_condition.new.progress.here after c.eval_condition.ensures.names
-    c.eval_condition.ensures.here c.inside.ensures.here in
-    stands_same c.inside.result (within s tested)
-    (stmt_place tracing names start c.args.statement.now p here) here after is ran
+    let ran : Traces c.inside.result (within s tested) after =
+    traces_among c.inside.result (λ n t. stmt_trace tracing n (length n) s tested t) names
+    c.eval_condition.new.progress.store.variables.names trace c.eval_condition.new.progress.trace
+    after
+    c.eval_condition.ensures.names c.eval_condition.ensures.trace c.inside.ensures.trace in
+    traces_same c.inside.result (within s tested)
+    (stmt_trace tracing names start c.args.statement.now p trace) after is ran
 
-pub statement-returns-then-is_true-2-clause-here : goal.statement-returns-then-is_true-2-clause-here
-statement-returns-then-is_true-2-clause-here g t c =
+pub statement-returns-else-is_true-clause-trace : goal.statement-returns-else-is_true-clause-trace
+statement-returns-else-is_true-clause-trace g t c =
     let setting = setting_of c.args.self.now.task in
     let tracing = tracing_of c.args.self.now.task in
     let names = c.args.progress.now.store.variables.names in
     let p = progress_of c.args.progress.now in
-    let here = c.args.progress.now.here in
+    let trace = c.args.progress.now.trace in
+    let start = c.args.start in
+    let condition = expr_view c.in-If.condition in
+    let within : Stmt → Progress → Trace = λ s. λ tested.
+    stmt_trace tracing names (length names) s tested trace in
+    let chosen : Progress → Trace = within c.in-If.chosen.value in
+    let other : Progress → Trace = λ tested. trace in
+    let tested = progress_of c.eval_condition.new.progress in
+    let value = c.in_ok-eval_condition-in-If.field-0 in
+    let truth : c.is_true.result ≡ is_true value = search rules in
+    c.eval_condition.ensures.trace
+    ∙ sym (ap (λ s. stmt_trace tracing names start s p trace) c.in-If.is
+    ∙ chosen_trace (condition_evaluated setting names (Some condition) p) trace chosen other value
+    tested false c.in_ok-eval_condition-in-If.ensures.tests (sym truth ∙ c.if-is_true.false))
+
+pub statement-returns-then-is_true-2-clause-trace :
+    goal.statement-returns-then-is_true-2-clause-trace
+statement-returns-then-is_true-2-clause-trace g t c =
+    let setting = setting_of c.args.self.now.task in
+    let tracing = tracing_of c.args.self.now.task in
+    let names = c.args.progress.now.store.variables.names in
+    let p = progress_of c.args.progress.now in
+    let trace = c.args.progress.now.trace in
     let start = c.args.start in
     let condition = expr_view c.in-IfElse.condition in
-    let within : Stmt → Where = λ s. λ tested.
-    stmt_place tracing names (length names) s tested here in
-    let chosen : Where = within c.in-IfElse.chosen.value in
-    let other : Where = within c.in-IfElse.other.value in
+    let within : Stmt → Progress → Trace = λ s. λ tested.
+    stmt_trace tracing names (length names) s tested trace in
+    let chosen : Progress → Trace = within c.in-IfElse.chosen.value in
+    let other : Progress → Trace = within c.in-IfElse.other.value in
     let tested = progress_of c.eval_condition-in-IfElse.new.progress in
     let value = c.in_ok-eval_condition-in-IfElse.field-0 in
     let truth : c.is_true-in-IfElse.result ≡ is_true value = search rules in
     let s = c.deref-then-is_true-2.result.now in
-    let after = c.inside-then-is_true-2.new.progress.here in
-    let is : stmt_place tracing names start c.args.statement.now p here
-    ≡ within s tested = ap (λ s. stmt_place tracing names start s p here) c.in-IfElse.is
-    ∙ chosen_place (condition_evaluated setting names (Some condition) p) here chosen other value
-    tested true c.in_ok-eval_condition-in-IfElse.ensures.tests
-    (sym truth ∙ c.if-is_true-2.true)
+    let after = c.inside-then-is_true-2.new.progress.trace in
+    let is : stmt_trace tracing names start c.args.statement.now p trace ≡ within s tested =
+    ap (λ s. stmt_trace tracing names start s p trace) c.in-IfElse.is
+    ∙ chosen_trace (condition_evaluated setting names (Some condition) p) trace chosen other value
+    tested true c.in_ok-eval_condition-in-IfElse.ensures.tests (sym truth ∙ c.if-is_true-2.true)
     ∙ ap (λ s. within s tested) (sym c.deref-then-is_true-2.ensures) in
-    let ran : Stands c.inside-then-is_true-2.result (within s tested) here after =
-    stands_among c.inside-then-is_true-2.result
-    (λ n h. stmt_place tracing n (length n) s tested h) names
-    c.eval_condition-in-IfElse.new.progress.store.variables.names here
-    c.eval_condition-in-IfElse.new.progress.here after c.eval_condition-in-IfElse.ensures.names
-    c.eval_condition-in-IfElse.ensures.here c.inside-then-is_true-2.ensures.here in
-    stands_same c.inside-then-is_true-2.result (within s tested)
-    (stmt_place tracing names start c.args.statement.now p here) here after is ran
+    let ran : Traces c.inside-then-is_true-2.result (within s tested) after =
+    traces_among c.inside-then-is_true-2.result (λ n t. stmt_trace tracing n (length n) s tested t)
+    names
+    c.eval_condition-in-IfElse.new.progress.store.variables.names trace
+    c.eval_condition-in-IfElse.new.progress.trace after
+    c.eval_condition-in-IfElse.ensures.names c.eval_condition-in-IfElse.ensures.trace
+    c.inside-then-is_true-2.ensures.trace in
+    traces_same c.inside-then-is_true-2.result (within s tested)
+    (stmt_trace tracing names start c.args.statement.now p trace) after is ran
 
-pub statement-returns-else-is_true-2-clause-here : goal.statement-returns-else-is_true-2-clause-here
-statement-returns-else-is_true-2-clause-here g t c =
+pub statement-returns-else-is_true-2-clause-trace :
+    goal.statement-returns-else-is_true-2-clause-trace
+statement-returns-else-is_true-2-clause-trace g t c =
     let setting = setting_of c.args.self.now.task in
     let tracing = tracing_of c.args.self.now.task in
     let names = c.args.progress.now.store.variables.names in
     let p = progress_of c.args.progress.now in
-    let here = c.args.progress.now.here in
+    let trace = c.args.progress.now.trace in
     let start = c.args.start in
     let condition = expr_view c.in-IfElse.condition in
-    let within : Stmt → Where = λ s. λ tested.
-    stmt_place tracing names (length names) s tested here in
-    let chosen : Where = within c.in-IfElse.chosen.value in
-    let other : Where = within c.in-IfElse.other.value in
+    let within : Stmt → Progress → Trace = λ s. λ tested.
+    stmt_trace tracing names (length names) s tested trace in
+    let chosen : Progress → Trace = within c.in-IfElse.chosen.value in
+    let other : Progress → Trace = within c.in-IfElse.other.value in
     let tested = progress_of c.eval_condition-in-IfElse.new.progress in
     let value = c.in_ok-eval_condition-in-IfElse.field-0 in
     let truth : c.is_true-in-IfElse.result ≡ is_true value = search rules in
     let s = c.deref-else-is_true-2.result.now in
-    let after = c.inside-else-is_true-2.new.progress.here in
-    let is : stmt_place tracing names start c.args.statement.now p here
-    ≡ within s tested = ap (λ s. stmt_place tracing names start s p here) c.in-IfElse.is
-    ∙ chosen_place (condition_evaluated setting names (Some condition) p) here chosen other value
-    tested false c.in_ok-eval_condition-in-IfElse.ensures.tests
-    (sym truth ∙ c.if-is_true-2.false)
+    let after = c.inside-else-is_true-2.new.progress.trace in
+    let is : stmt_trace tracing names start c.args.statement.now p trace ≡ within s tested =
+    ap (λ s. stmt_trace tracing names start s p trace) c.in-IfElse.is
+    ∙ chosen_trace (condition_evaluated setting names (Some condition) p) trace chosen other value
+    tested false c.in_ok-eval_condition-in-IfElse.ensures.tests (sym truth ∙ c.if-is_true-2.false)
     ∙ ap (λ s. within s tested) (sym c.deref-else-is_true-2.ensures) in
-    let ran : Stands c.inside-else-is_true-2.result (within s tested) here after =
-    stands_among c.inside-else-is_true-2.result
-    (λ n h. stmt_place tracing n (length n) s tested h) names
-    c.eval_condition-in-IfElse.new.progress.store.variables.names here
-    c.eval_condition-in-IfElse.new.progress.here after c.eval_condition-in-IfElse.ensures.names
-    c.eval_condition-in-IfElse.ensures.here c.inside-else-is_true-2.ensures.here in
-    stands_same c.inside-else-is_true-2.result (within s tested)
-    (stmt_place tracing names start c.args.statement.now p here) here after is ran
+    let ran : Traces c.inside-else-is_true-2.result (within s tested) after =
+    traces_among c.inside-else-is_true-2.result (λ n t. stmt_trace tracing n (length n) s tested t)
+    names
+    c.eval_condition-in-IfElse.new.progress.store.variables.names trace
+    c.eval_condition-in-IfElse.new.progress.trace after
+    c.eval_condition-in-IfElse.ensures.names c.eval_condition-in-IfElse.ensures.trace
+    c.inside-else-is_true-2.ensures.trace in
+    traces_same c.inside-else-is_true-2.result (within s tested)
+    (stmt_trace tracing names start c.args.statement.now p trace) after is ran
 
-pub statement-returns-in-While-clause-here : goal.statement-returns-in-While-clause-here
-statement-returns-in-While-clause-here g t c =
+pub statement-returns-in-While-clause-trace : goal.statement-returns-in-While-clause-trace
+statement-returns-in-While-clause-trace g t c =
     let tracing = tracing_of c.args.self.now.task in
     let names = c.args.progress.now.store.variables.names in
     let p = progress_of c.args.progress.now in
-    let here = c.args.progress.now.here in
+    let trace = c.args.progress.now.trace in
     let start = c.args.start in
     let condition = expr_view c.in-While.condition in
     let body = c.deref-in-While.result.now in
-    let turns = while_place tracing names condition body here (suc turn_limit) p in
-    let is : stmt_place tracing names start c.args.statement.now p here ≡ turns =
-    ap (λ s. stmt_place tracing names start s p here) c.in-While.is
-    ∙ ap (λ s. while_place tracing names condition s here (suc turn_limit) p)
+    let turns = while_trace tracing names condition body (suc turn_limit) p trace in
+    let is : stmt_trace tracing names start c.args.statement.now p trace ≡ turns =
+    ap (λ s. stmt_trace tracing names start s p trace) c.in-While.is
+    ∙ ap (λ s. while_trace tracing names condition s (suc turn_limit) p trace)
     (sym c.deref-in-While.ensures) in
-    stands_same c.while_turns.result turns
-    (stmt_place tracing names start c.args.statement.now p here) here
-    c.while_turns.new.progress.here is c.while_turns.ensures.here
+    traces_same c.while_turns.result turns
+    (stmt_trace tracing names start c.args.statement.now p trace) c.while_turns.new.progress.trace
+    is c.while_turns.ensures.trace
 
-pub statement-returns-in-For-clause-here : goal.statement-returns-in-For-clause-here
-statement-returns-in-For-clause-here g t c =
+pub statement-returns-in-For-clause-trace : goal.statement-returns-in-For-clause-trace
+statement-returns-in-For-clause-trace g t c =
     let tracing = tracing_of c.args.self.now.task in
     let names = c.args.progress.now.store.variables.names in
     let p = progress_of c.args.progress.now in
-    let here = c.args.progress.now.here in
+    let trace = c.args.progress.now.trace in
     let start = c.args.start in
     let first = c.deref-in-For.result.now in
     let step = c.deref-in-For-2.result.now in
     let body = c.deref-in-For-3.result.now in
     let condition = option_map expr_view c.in-For.condition in
     let captures = option_map (λ e. expr_view e.now) c.as_ref.result in
-    let whole = for_place tracing names first captures step body p here in
-    let is : stmt_place tracing names start c.args.statement.now p here ≡ whole =
-    ap (λ s. stmt_place tracing names start s p here) c.in-For.is
-    ∙ ap (λ s. for_place tracing names s condition c.in-For.step.value c.in-For.body.value p here)
+    let whole = for_trace tracing names first captures step body p trace in
+    let is : stmt_trace tracing names start c.args.statement.now p trace ≡ whole =
+    ap (λ s. stmt_trace tracing names start s p trace) c.in-For.is
+    ∙ ap (λ s. for_trace tracing names s condition c.in-For.step.value c.in-For.body.value p trace)
     (sym c.deref-in-For.ensures)
-    ∙ ap (λ s. for_place tracing names first condition s c.in-For.body.value p here)
+    ∙ ap (λ s. for_trace tracing names first condition s c.in-For.body.value p trace)
     (sym c.deref-in-For-2.ensures)
-    ∙ ap (λ s. for_place tracing names first condition step s p here) (sym c.deref-in-For-3.ensures)
-    ∙ ap (λ o. for_place tracing names first o step body p here)
+    ∙ ap (λ s. for_trace tracing names first condition step s p trace)
+    (sym c.deref-in-For-3.ensures)
+    ∙ ap (λ o. for_trace tracing names first o step body p trace)
     (sym (seen_condition c.as_ref.result c.in-For.condition c.as_ref.ensures.value)) in
-    stands_same c.for_loop.result whole
-    (stmt_place tracing names start c.args.statement.now p here) here c.for_loop.new.progress.here
-    is c.for_loop.ensures.here
+    traces_same c.for_loop.result whole
+    (stmt_trace tracing names start c.args.statement.now p trace) c.for_loop.new.progress.trace
+    is c.for_loop.ensures.trace
 
-pub for_loop-returns-in_err-statement-clause-here :
-    goal.for_loop-returns-in_err-statement-clause-here
-for_loop-returns-in_err-statement-clause-here g t c =
+pub for_loop-returns-in_err-statement-clause-trace :
+    goal.for_loop-returns-in_err-statement-clause-trace
+for_loop-returns-in_err-statement-clause-trace g t c =
     let setting = setting_of c.args.self.now.task in
     let tracing = tracing_of c.args.self.now.task in
     let names = c.args.progress.now.store.variables.names in
     let p = progress_of c.args.progress.now in
-    let here = c.args.progress.now.here in
+    let trace = c.args.progress.now.trace in
     let first = c.args.first.now in
     let step = c.args.step.now in
     let body = c.args.body.now in
     let condition = option_map (λ e. expr_view e.now) c.args.condition in
-    let own = stmt_place tracing names (length names) first p here in
+    let own = stmt_trace tracing names (length names) first p trace in
     let begins = stmt_run setting names (length names) (stmt_view first) p in
-    let turns : Where = for_turns_place tracing (names_after names (stmt_view first)) condition
-    step body here (suc turn_limit) in
-    let whole = for_place tracing names first condition step body p here in
+    let turns : Turn = for_turns_trace tracing (names_after names (stmt_view first)) condition
+    step body (suc turn_limit) in
+    let whole = for_trace tracing names first condition step body p trace in
     let e = c.in_err-statement.field-0.0 in
-    let found = c.statement.new.progress.here in
+    let after = c.statement.new.progress.trace in
     let refuses : IsRefusal begins e = subst
     (λ n. IsRefusal (stmt_run setting names n (stmt_view first) p) e)
     c.count-start.ensures.names c.in_err-statement.ensures.runs in
-    let at : IsPlaceOf e own found = subst
-    (λ n. IsPlaceOf e (stmt_place tracing names n first p here) found)
-    c.count-start.ensures.names c.in_err-statement.ensures.here in
-    let reported : Stands {X = Unit {0}} (Err e) whole here found =
-    first_placed begins e own found turns refuses at in
+    let at : IsPlaceOf e own.here after.here = subst
+    (λ n. IsPlaceOf e (stmt_trace tracing names n first p trace).here after.here)
+    c.count-start.ensures.names c.in_err-statement.ensures.trace in
+    let reported : Traces {X = Unit {0}} (Err e) whole after =
+    first_placed begins e own after.here (λ begun. turns begun own) refuses at in
     search rules
 
-pub for_loop-returns-in_err-for_turns-clause-here :
-    goal.for_loop-returns-in_err-for_turns-clause-here
-for_loop-returns-in_err-for_turns-clause-here g t c =
+pub for_loop-returns-in_err-for_turns-clause-trace :
+    goal.for_loop-returns-in_err-for_turns-clause-trace
+for_loop-returns-in_err-for_turns-clause-trace g t c =
     let setting = setting_of c.args.self.now.task in
     let tracing = tracing_of c.args.self.now.task in
     let names = c.args.progress.now.store.variables.names in
     let p = progress_of c.args.progress.now in
-    let here = c.args.progress.now.here in
+    let trace = c.args.progress.now.trace in
     let first = c.args.first.now in
     let step = c.args.step.now in
     let body = c.args.body.now in
     let condition = option_map (λ e. expr_view e.now) c.args.condition in
-    let own = stmt_place tracing names (length names) first p here in
+    let own = stmt_trace tracing names (length names) first p trace in
     let begins = stmt_run setting names (length names) (stmt_view first) p in
-    let turns : Where = for_turns_place tracing (names_after names (stmt_view first)) condition
-    step body here (suc turn_limit) in
-    let whole = for_place tracing names first condition step body p here in
-    let e = c.in_err-for_turns.field-0.0 in
-    let found = c.for_turns.new.progress.here in
+    let turns : Turn = for_turns_trace tracing (names_after names (stmt_view first)) condition
+    step body (suc turn_limit) in
+    let whole = for_trace tracing names first condition step body p trace in
     let begun = progress_of c.statement.new.progress in
+    let trace' = c.statement.new.progress.trace in
+    let after = c.for_turns.new.progress.trace in
     let ran : begins ≡ Ok begun = subst
     (λ n. stmt_run setting names n (stmt_view first) p ≡ Ok begun)
     c.count-start.ensures.names c.in_ok-statement.ensures.runs in
-    let at : IsPlaceOf e (turns begun) found = placed_among e
-    (λ n h. for_turns_place tracing n condition step body h (suc turn_limit) begun)
-    (names_after names (stmt_view first)) c.statement.new.progress.store.variables.names here
-    c.statement.new.progress.here found c.in_ok-statement.ensures.names
-    c.in_ok-statement.ensures.here c.in_err-for_turns.ensures.here in
-    let reported : Stands {X = Unit {0}} (Err e) whole here found =
-    second_placed begins e own found turns begun ran at in
+    let moved : trace' ≡ own = subst (λ n. trace' ≡ stmt_trace tracing names n first p trace)
+    c.count-start.ensures.names c.in_ok-statement.ensures.trace in
+    let e = c.in_err-for_turns.field-0.0 in
+    let at : IsPlaceOf e (turns begun own).here after.here = placed_among e
+    (λ n t. for_turns_trace tracing n condition step body (suc turn_limit) begun t)
+    (names_after names (stmt_view first)) c.statement.new.progress.store.variables.names own trace'
+    after.here c.in_ok-statement.ensures.names moved c.in_err-for_turns.ensures.trace in
+    let reported : Traces {X = Unit {0}} (Err e) whole after =
+    second_placed begins e own after.here (λ begun. turns begun own) begun ran at in
     search rules
 
-pub while_turns-returns-in_err-eval_condition-clause-here :
-    goal.while_turns-returns-in_err-eval_condition-clause-here
-while_turns-returns-in_err-eval_condition-clause-here g t c =
+pub for_loop-returns-clause-trace : goal.for_loop-returns-clause-trace
+for_loop-returns-clause-trace g t c =
     let setting = setting_of c.args.self.now.task in
     let tracing = tracing_of c.args.self.now.task in
     let names = c.args.progress.now.store.variables.names in
     let p = progress_of c.args.progress.now in
-    let here = c.args.progress.now.here in
+    let trace = c.args.progress.now.trace in
+    let first = c.args.first.now in
+    let step = c.args.step.now in
+    let body = c.args.body.now in
+    let condition = option_map (λ e. expr_view e.now) c.args.condition in
+    let own = stmt_trace tracing names (length names) first p trace in
+    let begins = stmt_run setting names (length names) (stmt_view first) p in
+    let turns : Turn = for_turns_trace tracing (names_after names (stmt_view first)) condition
+    step body (suc turn_limit) in
+    let whole = for_trace tracing names first condition step body p trace in
+    let begun = progress_of c.statement.new.progress in
+    let trace' = c.statement.new.progress.trace in
+    let after = c.for_turns.new.progress.trace in
+    let ran : begins ≡ Ok begun = subst
+    (λ n. stmt_run setting names n (stmt_view first) p ≡ Ok begun)
+    c.count-start.ensures.names c.in_ok-statement.ensures.runs in
+    let moved : trace' ≡ own = subst (λ n. trace' ≡ stmt_trace tracing names n first p trace)
+    c.count-start.ensures.names c.in_ok-statement.ensures.trace in
+    let turned : after ≡ turns begun trace' = subst
+    (λ n. after ≡ for_turns_trace tracing n condition step body (suc turn_limit) begun trace')
+    c.in_ok-statement.ensures.names c.in_ok-for_turns.ensures.trace in
+    both_traced begins own turns begun trace' after ran moved turned
+
+pub while_turns-returns-in_err-eval_condition-clause-trace :
+    goal.while_turns-returns-in_err-eval_condition-clause-trace
+while_turns-returns-in_err-eval_condition-clause-trace g t c =
+    let setting = setting_of c.args.self.now.task in
+    let tracing = tracing_of c.args.self.now.task in
+    let names = c.args.progress.now.store.variables.names in
+    let p = progress_of c.args.progress.now in
     let condition : Option tree.Expr = Some (expr_view c.args.condition.now) in
     let test : Test = condition_evaluated setting names condition in
-    let body : Step = inside (stmt_run setting names (length names) (stmt_view c.args.body.now)) in
-    let place : Where = λ turning.
-    stmt_place tracing names (length names) c.args.body.now turning here in
-    let whole = while_place tracing names (expr_view c.args.condition.now) c.args.body.now here
-    (suc turn_limit) p in
+    let s = c.args.body.now in
+    let body : Step = inside (stmt_run setting names (length names) (stmt_view s)) in
+    let traced : Turn = stmt_trace tracing names (length names) s in
+    let whole = while_trace tracing names (expr_view c.args.condition.now) s (suc turn_limit) p
+    c.args.progress.now.trace in
     let round = c.loop-round._round in
-    let left = c.loop-round.invariant.place in
+    let left = c.loop-round.invariant.trace in
     let m = progress_of c.loop-round.progress in
+    let trace = c.loop-round.progress.trace in
     let e = c.in_err-eval_condition.field-0.0 in
-    let found = c.eval_condition.new.progress.here in
+    let after = c.eval_condition.new.progress.trace in
     let refuses : IsRefusal (test m) e = subst
     (λ n. IsRefusal (condition_evaluated setting n condition m) e)
     c.loop-round.invariant.names c.in_err-eval_condition.ensures.tests in
-    let still : c.eval_condition.new.progress.here ≡ here =
-    c.eval_condition.ensures.here ∙ c.loop-round.invariant.here in
-    let reported : Stands {X = Unit {0}} (Err e) whole here found =
-    test_placed test body place here found round m whole e c.loop-round-test.true left refuses
-    still in
+    let reported : Traces {X = Unit {0}} (Err e) whole after =
+    test_placed test body traced round m trace whole after.here e c.loop-round-test.true left
+    refuses (ap (λ t. t.here) c.eval_condition.ensures.trace) in
     search rules
 
-pub while_turns-returns-in_err-turn-clause-here : goal.while_turns-returns-in_err-turn-clause-here
-while_turns-returns-in_err-turn-clause-here g t c =
+pub while_turns-returns-then-not-is_true-clause-trace :
+    goal.while_turns-returns-then-not-is_true-clause-trace
+while_turns-returns-then-not-is_true-clause-trace g t c =
     let setting = setting_of c.args.self.now.task in
     let tracing = tracing_of c.args.self.now.task in
     let names = c.args.progress.now.store.variables.names in
     let p = progress_of c.args.progress.now in
-    let here = c.args.progress.now.here in
     let condition : Option tree.Expr = Some (expr_view c.args.condition.now) in
     let test : Test = condition_evaluated setting names condition in
-    let body : Step = inside (stmt_run setting names (length names) (stmt_view c.args.body.now)) in
-    let place : Where = λ turning.
-    stmt_place tracing names (length names) c.args.body.now turning here in
-    let whole = while_place tracing names (expr_view c.args.condition.now) c.args.body.now here
-    (suc turn_limit) p in
+    let s = c.args.body.now in
+    let body : Step = inside (stmt_run setting names (length names) (stmt_view s)) in
+    let traced : Turn = stmt_trace tracing names (length names) s in
+    let whole = while_trace tracing names (expr_view c.args.condition.now) s (suc turn_limit) p
+    c.args.progress.now.trace in
     let round = c.loop-round._round in
-    let left = c.loop-round.invariant.place in
+    let left = c.loop-round.invariant.trace in
     let m = progress_of c.loop-round.progress in
+    let trace = c.loop-round.progress.trace in
+    let tested = progress_of c.eval_condition.new.progress in
+    let value = c.in_ok-eval_condition.field-0 in
+    let met : test m ≡ Ok (value, tested) =
+    subst (λ n. condition_evaluated setting n condition m ≡ Ok (value, tested))
+    c.loop-round.invariant.names c.in_ok-eval_condition.ensures.tests in
+    let truth : c.is_true.result ≡ is_true value = search rules in
+    let ends : is_true value ≡ false = sym truth ∙ c.if-not-is_true.true in
+    c.eval_condition.ensures.trace
+    ∙ sym (trace_ends test body traced round m tested value trace whole c.loop-round-test.true left
+    met ends)
+
+pub while_turns-returns-in_err-turn-clause-trace : goal.while_turns-returns-in_err-turn-clause-trace
+while_turns-returns-in_err-turn-clause-trace g t c =
+    let setting = setting_of c.args.self.now.task in
+    let tracing = tracing_of c.args.self.now.task in
+    let names = c.args.progress.now.store.variables.names in
+    let p = progress_of c.args.progress.now in
+    let condition : Option tree.Expr = Some (expr_view c.args.condition.now) in
+    let test : Test = condition_evaluated setting names condition in
+    let s = c.args.body.now in
+    let body : Step = inside (stmt_run setting names (length names) (stmt_view s)) in
+    let traced : Turn = stmt_trace tracing names (length names) s in
+    let whole = while_trace tracing names (expr_view c.args.condition.now) s (suc turn_limit) p
+    c.args.progress.now.trace in
+    let round = c.loop-round._round in
+    let left = c.loop-round.invariant.trace in
+    let m = progress_of c.loop-round.progress in
+    let trace = c.loop-round.progress.trace in
     let tested = progress_of c.eval_condition.new.progress in
     let value = c.in_ok-eval_condition.field-0 in
     let met : test m ≡ Ok (value, tested) =
@@ -1121,33 +1287,32 @@ while_turns-returns-in_err-turn-clause-here g t c =
     c.loop-round.invariant.names c.in_ok-eval_condition.ensures.tests in
     let truth : c.is_true.result ≡ is_true value = search rules in
     let holds : is_true value ≡ true = sym truth ∙ c.if-not-is_true.false in
-    let still : c.eval_condition.new.progress.here ≡ here =
-    c.eval_condition.ensures.here ∙ c.loop-round.invariant.here in
     let e = c.in_err-turn.field-0.0 in
-    let found = c.eval_condition.new.progress.here in
-    let reported : Stands {X = Unit {0}} (Err e) whole here found =
-    turn_placed test body place here found round m tested value whole e c.loop-round-test.true left
-    met holds c.in_err-turn.ensures.done still in
+    let after = c.eval_condition.new.progress.trace in
+    let reported : Traces {X = Unit {0}} (Err e) whole after =
+    turn_placed test body traced round m tested value trace whole after.here e
+    c.loop-round-test.true left met holds c.in_err-turn.ensures.done
+    (ap (λ t. t.here) c.eval_condition.ensures.trace) in
     search rules
 
-pub while_turns-returns-in_err-inside-clause-here :
-    goal.while_turns-returns-in_err-inside-clause-here
-while_turns-returns-in_err-inside-clause-here g t c =
+pub while_turns-returns-in_err-inside-clause-trace :
+    goal.while_turns-returns-in_err-inside-clause-trace
+while_turns-returns-in_err-inside-clause-trace g t c =
     let setting = setting_of c.args.self.now.task in
     let tracing = tracing_of c.args.self.now.task in
     let names = c.args.progress.now.store.variables.names in
     let p = progress_of c.args.progress.now in
-    let here = c.args.progress.now.here in
     let condition : Option tree.Expr = Some (expr_view c.args.condition.now) in
     let test : Test = condition_evaluated setting names condition in
-    let body : Step = inside (stmt_run setting names (length names) (stmt_view c.args.body.now)) in
-    let place : Where = λ turning.
-    stmt_place tracing names (length names) c.args.body.now turning here in
-    let whole = while_place tracing names (expr_view c.args.condition.now) c.args.body.now here
-    (suc turn_limit) p in
+    let s = c.args.body.now in
+    let body : Step = inside (stmt_run setting names (length names) (stmt_view s)) in
+    let traced : Turn = stmt_trace tracing names (length names) s in
+    let whole = while_trace tracing names (expr_view c.args.condition.now) s (suc turn_limit) p
+    c.args.progress.now.trace in
     let round = c.loop-round._round in
-    let left = c.loop-round.invariant.place in
+    let left = c.loop-round.invariant.trace in
     let m = progress_of c.loop-round.progress in
+    let trace = c.loop-round.progress.trace in
     let tested = progress_of c.eval_condition.new.progress in
     let value = c.in_ok-eval_condition.field-0 in
     let met : test m ≡ Ok (value, tested) =
@@ -1155,107 +1320,130 @@ while_turns-returns-in_err-inside-clause-here g t c =
     c.loop-round.invariant.names c.in_ok-eval_condition.ensures.tests in
     let truth : c.is_true.result ≡ is_true value = search rules in
     let holds : is_true value ≡ true = sym truth ∙ c.if-not-is_true.false in
-    let still : c.eval_condition.new.progress.here ≡ here =
-    c.eval_condition.ensures.here ∙ c.loop-round.invariant.here in
     let store = store_of c.turn.new.store in
     let turning : spec.Progress = record tested { store = store } in
     let turn : computed (firing.turned tested.store) ≡ Ok store = c.in_ok-turn.ensures.done in
     let same : c.turn.new.store.variables.names ≡ names =
     c.turn.ensures.names ∙ c.eval_condition.ensures.names ∙ c.loop-round.invariant.names in
     let e = c.in_err-inside.field-0.0 in
-    let found = c.inside.new.progress.here in
-    let s = c.args.body.now in
+    let after = c.inside.new.progress.trace in
+    let own = stmt_trace tracing names (length names) s turning trace in
     let refuses : IsRefusal (body turning) e =
     subst (λ n. IsRefusal (inside (stmt_run setting n (length n) (stmt_view s)) turning) e) same
     c.in_err-inside.ensures.runs in
-    let at : IsPlaceOf e (stmt_place tracing names (length names) s turning here) found =
-    placed_among e (λ n h. stmt_place tracing n (length n) s turning h) names
-    c.turn.new.store.variables.names here c.eval_condition.new.progress.here found same still
-    c.in_err-inside.ensures.here in
-    let reported : Stands {X = Unit {0}} (Err e) whole here found =
-    body_placed test body place here found round m tested value store whole e
+    let at : IsPlaceOf e own.here after.here =
+    placed_among e (λ n t. stmt_trace tracing n (length n) s turning t) names
+    c.turn.new.store.variables.names trace c.eval_condition.new.progress.trace after.here same
+    c.eval_condition.ensures.trace c.in_err-inside.ensures.trace in
+    let reported : Traces {X = Unit {0}} (Err e) whole after =
+    body_placed test body traced round m tested value store trace whole after.here e
     c.loop-round-test.true left met holds turn refuses at in
     search rules
 
-pub while_turns-returns-clause-here : goal.while_turns-returns-clause-here
-while_turns-returns-clause-here g t c =
+pub while_turns-returns-clause-trace : goal.while_turns-returns-clause-trace
+while_turns-returns-clause-trace g t c =
     let setting = setting_of c.args.self.now.task in
     let tracing = tracing_of c.args.self.now.task in
     let names = c.args.progress.now.store.variables.names in
     let p = progress_of c.args.progress.now in
-    let here = c.args.progress.now.here in
     let condition : Option tree.Expr = Some (expr_view c.args.condition.now) in
     let test : Test = condition_evaluated setting names condition in
-    let body : Step = inside (stmt_run setting names (length names) (stmt_view c.args.body.now)) in
-    let place : Where = λ turning.
-    stmt_place tracing names (length names) c.args.body.now turning here in
-    let whole = while_place tracing names (expr_view c.args.condition.now) c.args.body.now here
-    (suc turn_limit) p in
+    let s = c.args.body.now in
+    let body : Step = inside (stmt_run setting names (length names) (stmt_view s)) in
+    let traced : Turn = stmt_trace tracing names (length names) s in
+    let whole = while_trace tracing names (expr_view c.args.condition.now) s (suc turn_limit) p
+    c.args.progress.now.trace in
     let round = c.loop-round._round in
-    let left = c.loop-round.invariant.place in
+    let left = c.loop-round.invariant.trace in
     let m = progress_of c.loop-round.progress in
-    placed_at c.fault.result whole c.loop-round.progress.here
-    (c.loop-round.invariant.here
-    ∙ sym (place_over test body place here round m whole (omega (arith, c.loop-round-test.false))
-    (omega (arith, c.loop-round.auto._round-end)) left))
+    let trace = c.loop-round.progress.trace in
+    placed_at c.fault.result whole.here trace.here
+    (ap (λ t. t.here) (sym (trace_over test body traced round m trace whole
+    (omega (arith, c.loop-round-test.false)) (omega (arith, c.loop-round.auto._round-end)) left)))
 
-pub for_turns-returns-in_err-eval_condition-clause-here :
-    goal.for_turns-returns-in_err-eval_condition-clause-here
-for_turns-returns-in_err-eval_condition-clause-here g t c =
+pub for_turns-returns-in_err-eval_condition-clause-trace :
+    goal.for_turns-returns-in_err-eval_condition-clause-trace
+for_turns-returns-in_err-eval_condition-clause-trace g t c =
     let setting = setting_of c.args.self.now.task in
     let tracing = tracing_of c.args.self.now.task in
     let names = c.args.progress.now.store.variables.names in
     let p = progress_of c.args.progress.now in
-    let here = c.args.progress.now.here in
     let condition : Option tree.Expr = option_map (λ e. expr_view e.now) c.args.condition in
     let test : Test = condition_evaluated setting names condition in
-    let turns : Step = inside (stmt_run setting names (length names) (stmt_view c.args.body.now)) in
-    let steps : Step = inside (stmt_run setting names (length names) (stmt_view c.args.step.now)) in
+    let s = c.args.body.now in
+    let s' = c.args.step.now in
+    let turns : Step = inside (stmt_run setting names (length names) (stmt_view s)) in
+    let steps : Step = inside (stmt_run setting names (length names) (stmt_view s')) in
     let body : Step = λ turn. result_and_then (turns turn) steps in
-    let own : Where = λ turning.
-    stmt_place tracing names (length names) c.args.body.now turning here in
-    let next : Where = λ turned.
-    stmt_place tracing names (length names) c.args.step.now turned here in
-    let place : Where = λ turning. place_after (turns turning) (own turning) next in
-    let whole = for_turns_place tracing names condition c.args.step.now c.args.body.now here
-    (suc turn_limit) p in
+    let traced : Turn = turn_trace tracing names s' s in
+    let whole = for_turns_trace tracing names condition s' s (suc turn_limit) p
+    c.args.progress.now.trace in
     let round = c.loop-round._round in
-    let left = c.loop-round.invariant.place in
+    let left = c.loop-round.invariant.trace in
     let m = progress_of c.loop-round.progress in
+    let trace = c.loop-round.progress.trace in
     let e = c.in_err-eval_condition.field-0.0 in
-    let found = c.eval_condition.new.progress.here in
+    let after = c.eval_condition.new.progress.trace in
     let refuses : IsRefusal (test m) e = subst
     (λ n. IsRefusal (condition_evaluated setting n condition m) e)
     c.loop-round.invariant.names c.in_err-eval_condition.ensures.tests in
-    let still : c.eval_condition.new.progress.here ≡ here =
-    c.eval_condition.ensures.here ∙ c.loop-round.invariant.here in
-    let reported : Stands {X = Unit {0}} (Err e) whole here found =
-    test_placed test body place here found round m whole e c.loop-round-test.true left refuses
-    still in
+    let reported : Traces {X = Unit {0}} (Err e) whole after =
+    test_placed test body traced round m trace whole after.here e c.loop-round-test.true left
+    refuses (ap (λ t. t.here) c.eval_condition.ensures.trace) in
     search rules
 
-pub for_turns-returns-in_err-turn-clause-here : goal.for_turns-returns-in_err-turn-clause-here
-for_turns-returns-in_err-turn-clause-here g t c =
+pub for_turns-returns-then-not-is_true-clause-trace :
+    goal.for_turns-returns-then-not-is_true-clause-trace
+for_turns-returns-then-not-is_true-clause-trace g t c =
     let setting = setting_of c.args.self.now.task in
     let tracing = tracing_of c.args.self.now.task in
     let names = c.args.progress.now.store.variables.names in
     let p = progress_of c.args.progress.now in
-    let here = c.args.progress.now.here in
     let condition : Option tree.Expr = option_map (λ e. expr_view e.now) c.args.condition in
     let test : Test = condition_evaluated setting names condition in
-    let turns : Step = inside (stmt_run setting names (length names) (stmt_view c.args.body.now)) in
-    let steps : Step = inside (stmt_run setting names (length names) (stmt_view c.args.step.now)) in
+    let s = c.args.body.now in
+    let s' = c.args.step.now in
+    let turns : Step = inside (stmt_run setting names (length names) (stmt_view s)) in
+    let steps : Step = inside (stmt_run setting names (length names) (stmt_view s')) in
     let body : Step = λ turn. result_and_then (turns turn) steps in
-    let own : Where = λ turning.
-    stmt_place tracing names (length names) c.args.body.now turning here in
-    let next : Where = λ turned.
-    stmt_place tracing names (length names) c.args.step.now turned here in
-    let place : Where = λ turning. place_after (turns turning) (own turning) next in
-    let whole = for_turns_place tracing names condition c.args.step.now c.args.body.now here
-    (suc turn_limit) p in
+    let traced : Turn = turn_trace tracing names s' s in
+    let whole = for_turns_trace tracing names condition s' s (suc turn_limit) p
+    c.args.progress.now.trace in
     let round = c.loop-round._round in
-    let left = c.loop-round.invariant.place in
+    let left = c.loop-round.invariant.trace in
     let m = progress_of c.loop-round.progress in
+    let trace = c.loop-round.progress.trace in
+    let tested = progress_of c.eval_condition.new.progress in
+    let value = c.in_ok-eval_condition.field-0 in
+    let met : test m ≡ Ok (value, tested) =
+    subst (λ n. condition_evaluated setting n condition m ≡ Ok (value, tested))
+    c.loop-round.invariant.names c.in_ok-eval_condition.ensures.tests in
+    let truth : c.is_true.result ≡ is_true value = search rules in
+    let ends : is_true value ≡ false = sym truth ∙ c.if-not-is_true.true in
+    c.eval_condition.ensures.trace
+    ∙ sym (trace_ends test body traced round m tested value trace whole c.loop-round-test.true left
+    met ends)
+
+pub for_turns-returns-in_err-turn-clause-trace : goal.for_turns-returns-in_err-turn-clause-trace
+for_turns-returns-in_err-turn-clause-trace g t c =
+    let setting = setting_of c.args.self.now.task in
+    let tracing = tracing_of c.args.self.now.task in
+    let names = c.args.progress.now.store.variables.names in
+    let p = progress_of c.args.progress.now in
+    let condition : Option tree.Expr = option_map (λ e. expr_view e.now) c.args.condition in
+    let test : Test = condition_evaluated setting names condition in
+    let s = c.args.body.now in
+    let s' = c.args.step.now in
+    let turns : Step = inside (stmt_run setting names (length names) (stmt_view s)) in
+    let steps : Step = inside (stmt_run setting names (length names) (stmt_view s')) in
+    let body : Step = λ turn. result_and_then (turns turn) steps in
+    let traced : Turn = turn_trace tracing names s' s in
+    let whole = for_turns_trace tracing names condition s' s (suc turn_limit) p
+    c.args.progress.now.trace in
+    let round = c.loop-round._round in
+    let left = c.loop-round.invariant.trace in
+    let m = progress_of c.loop-round.progress in
+    let trace = c.loop-round.progress.trace in
     let tested = progress_of c.eval_condition.new.progress in
     let value = c.in_ok-eval_condition.field-0 in
     let met : test m ≡ Ok (value, tested) =
@@ -1263,37 +1451,34 @@ for_turns-returns-in_err-turn-clause-here g t c =
     c.loop-round.invariant.names c.in_ok-eval_condition.ensures.tests in
     let truth : c.is_true.result ≡ is_true value = search rules in
     let holds : is_true value ≡ true = sym truth ∙ c.if-not-is_true.false in
-    let still : c.eval_condition.new.progress.here ≡ here =
-    c.eval_condition.ensures.here ∙ c.loop-round.invariant.here in
     let e = c.in_err-turn.field-0.0 in
-    let found = c.eval_condition.new.progress.here in
-    let reported : Stands {X = Unit {0}} (Err e) whole here found =
-    turn_placed test body place here found round m tested value whole e c.loop-round-test.true left
-    met holds c.in_err-turn.ensures.done still in
+    let after = c.eval_condition.new.progress.trace in
+    let reported : Traces {X = Unit {0}} (Err e) whole after =
+    turn_placed test body traced round m tested value trace whole after.here e
+    c.loop-round-test.true left met holds c.in_err-turn.ensures.done
+    (ap (λ t. t.here) c.eval_condition.ensures.trace) in
     search rules
 
-pub for_turns-returns-in_err-inside-clause-here : goal.for_turns-returns-in_err-inside-clause-here
-for_turns-returns-in_err-inside-clause-here g t c =
+pub for_turns-returns-in_err-inside-clause-trace : goal.for_turns-returns-in_err-inside-clause-trace
+for_turns-returns-in_err-inside-clause-trace g t c =
     let setting = setting_of c.args.self.now.task in
     let tracing = tracing_of c.args.self.now.task in
     let names = c.args.progress.now.store.variables.names in
     let p = progress_of c.args.progress.now in
-    let here = c.args.progress.now.here in
     let condition : Option tree.Expr = option_map (λ e. expr_view e.now) c.args.condition in
     let test : Test = condition_evaluated setting names condition in
-    let turns : Step = inside (stmt_run setting names (length names) (stmt_view c.args.body.now)) in
-    let steps : Step = inside (stmt_run setting names (length names) (stmt_view c.args.step.now)) in
+    let s = c.args.body.now in
+    let s' = c.args.step.now in
+    let turns : Step = inside (stmt_run setting names (length names) (stmt_view s)) in
+    let steps : Step = inside (stmt_run setting names (length names) (stmt_view s')) in
     let body : Step = λ turn. result_and_then (turns turn) steps in
-    let own : Where = λ turning.
-    stmt_place tracing names (length names) c.args.body.now turning here in
-    let next : Where = λ turned.
-    stmt_place tracing names (length names) c.args.step.now turned here in
-    let place : Where = λ turning. place_after (turns turning) (own turning) next in
-    let whole = for_turns_place tracing names condition c.args.step.now c.args.body.now here
-    (suc turn_limit) p in
+    let traced : Turn = turn_trace tracing names s' s in
+    let whole = for_turns_trace tracing names condition s' s (suc turn_limit) p
+    c.args.progress.now.trace in
     let round = c.loop-round._round in
-    let left = c.loop-round.invariant.place in
+    let left = c.loop-round.invariant.trace in
     let m = progress_of c.loop-round.progress in
+    let trace = c.loop-round.progress.trace in
     let tested = progress_of c.eval_condition.new.progress in
     let value = c.in_ok-eval_condition.field-0 in
     let met : test m ≡ Ok (value, tested) =
@@ -1301,52 +1486,49 @@ for_turns-returns-in_err-inside-clause-here g t c =
     c.loop-round.invariant.names c.in_ok-eval_condition.ensures.tests in
     let truth : c.is_true.result ≡ is_true value = search rules in
     let holds : is_true value ≡ true = sym truth ∙ c.if-not-is_true.false in
-    let still : c.eval_condition.new.progress.here ≡ here =
-    c.eval_condition.ensures.here ∙ c.loop-round.invariant.here in
     let store = store_of c.turn.new.store in
     let turning : spec.Progress = record tested { store = store } in
     let turn : computed (firing.turned tested.store) ≡ Ok store = c.in_ok-turn.ensures.done in
     let same : c.turn.new.store.variables.names ≡ names =
     c.turn.ensures.names ∙ c.eval_condition.ensures.names ∙ c.loop-round.invariant.names in
     let e = c.in_err-inside.field-0.0 in
-    let found = c.inside.new.progress.here in
-    let s = c.args.body.now in
+    let after = c.inside.new.progress.trace in
+    let own = stmt_trace tracing names (length names) s turning trace in
     let refuses : IsRefusal (turns turning) e =
     subst (λ n. IsRefusal (inside (stmt_run setting n (length n) (stmt_view s)) turning) e) same
     c.in_err-inside.ensures.runs in
-    let at : IsPlaceOf e (stmt_place tracing names (length names) s turning here) found =
-    placed_among e (λ n h. stmt_place tracing n (length n) s turning h) names
-    c.turn.new.store.variables.names here c.eval_condition.new.progress.here found same still
-    c.in_err-inside.ensures.here in
-    let reported : Stands {X = Unit {0}} (Err e) whole here found =
-    body_placed test body place here found round m tested value store whole e
+    let at : IsPlaceOf e own.here after.here =
+    placed_among e (λ n t. stmt_trace tracing n (length n) s turning t) names
+    c.turn.new.store.variables.names trace c.eval_condition.new.progress.trace after.here same
+    c.eval_condition.ensures.trace c.in_err-inside.ensures.trace in
+    let next : Turn = stmt_trace tracing names (length names) s' in
+    let reported : Traces {X = Unit {0}} (Err e) whole after =
+    body_placed test body traced round m tested value store trace whole after.here e
     c.loop-round-test.true left met holds turn (first_refused (turns turning) steps e refuses)
-    (first_placed (turns turning) e (own turning) found next refuses at) in
+    (first_placed (turns turning) e own after.here (λ turned. next turned own) refuses at) in
     search rules
 
-pub for_turns-returns-in_err-inside-2-clause-here :
-    goal.for_turns-returns-in_err-inside-2-clause-here
-for_turns-returns-in_err-inside-2-clause-here g t c =
+pub for_turns-returns-in_err-inside-2-clause-trace :
+    goal.for_turns-returns-in_err-inside-2-clause-trace
+for_turns-returns-in_err-inside-2-clause-trace g t c =
     let setting = setting_of c.args.self.now.task in
     let tracing = tracing_of c.args.self.now.task in
     let names = c.args.progress.now.store.variables.names in
     let p = progress_of c.args.progress.now in
-    let here = c.args.progress.now.here in
     let condition : Option tree.Expr = option_map (λ e. expr_view e.now) c.args.condition in
     let test : Test = condition_evaluated setting names condition in
-    let turns : Step = inside (stmt_run setting names (length names) (stmt_view c.args.body.now)) in
-    let steps : Step = inside (stmt_run setting names (length names) (stmt_view c.args.step.now)) in
+    let s = c.args.body.now in
+    let s' = c.args.step.now in
+    let turns : Step = inside (stmt_run setting names (length names) (stmt_view s)) in
+    let steps : Step = inside (stmt_run setting names (length names) (stmt_view s')) in
     let body : Step = λ turn. result_and_then (turns turn) steps in
-    let own : Where = λ turning.
-    stmt_place tracing names (length names) c.args.body.now turning here in
-    let next : Where = λ turned.
-    stmt_place tracing names (length names) c.args.step.now turned here in
-    let place : Where = λ turning. place_after (turns turning) (own turning) next in
-    let whole = for_turns_place tracing names condition c.args.step.now c.args.body.now here
-    (suc turn_limit) p in
+    let traced : Turn = turn_trace tracing names s' s in
+    let whole = for_turns_trace tracing names condition s' s (suc turn_limit) p
+    c.args.progress.now.trace in
     let round = c.loop-round._round in
-    let left = c.loop-round.invariant.place in
+    let left = c.loop-round.invariant.trace in
     let m = progress_of c.loop-round.progress in
+    let trace = c.loop-round.progress.trace in
     let tested = progress_of c.eval_condition.new.progress in
     let value = c.in_ok-eval_condition.field-0 in
     let met : test m ≡ Ok (value, tested) =
@@ -1354,60 +1536,60 @@ for_turns-returns-in_err-inside-2-clause-here g t c =
     c.loop-round.invariant.names c.in_ok-eval_condition.ensures.tests in
     let truth : c.is_true.result ≡ is_true value = search rules in
     let holds : is_true value ≡ true = sym truth ∙ c.if-not-is_true.false in
-    let still : c.eval_condition.new.progress.here ≡ here =
-    c.eval_condition.ensures.here ∙ c.loop-round.invariant.here in
     let store = store_of c.turn.new.store in
     let turning : spec.Progress = record tested { store = store } in
     let turn : computed (firing.turned tested.store) ≡ Ok store = c.in_ok-turn.ensures.done in
     let same : c.turn.new.store.variables.names ≡ names =
     c.turn.ensures.names ∙ c.eval_condition.ensures.names ∙ c.loop-round.invariant.names in
-    let after = progress_of c.inside.new.progress in
-    let ran : turns turning ≡ Ok after = subst
-    (λ n. inside (stmt_run setting n (length n) (stmt_view c.args.body.now)) turning
-    ≡ Ok after) same c.in_ok-inside.ensures.runs in
+    let next : Turn = stmt_trace tracing names (length names) s' in
+    let trace' = c.inside.new.progress.trace in
+    let own = stmt_trace tracing names (length names) s turning trace in
+    let between = progress_of c.inside.new.progress in
+    let ran : turns turning ≡ Ok between = subst
+    (λ n. inside (stmt_run setting n (length n) (stmt_view s)) turning ≡ Ok between) same
+    c.in_ok-inside.ensures.runs in
     let same' : c.inside.new.progress.store.variables.names ≡ names =
     c.in_ok-inside.ensures.names ∙ same in
-    let still' : c.inside.new.progress.here ≡ here = c.in_ok-inside.ensures.here ∙ still in
+    let moved : trace' ≡ own =
+    moved_among (λ n t. stmt_trace tracing n (length n) s turning t) names
+    c.turn.new.store.variables.names trace c.eval_condition.new.progress.trace trace' same
+    c.eval_condition.ensures.trace c.in_ok-inside.ensures.trace in
     let e = c.in_err-inside-2.field-0.0 in
-    let found = c.inside-in-loop-round.new.progress.here in
-    let s = c.args.step.now in
-    let refuses : IsRefusal (steps after) e = subst
-    (λ n. IsRefusal (inside (stmt_run setting n (length n) (stmt_view s)) after) e) same'
+    let after = c.inside-in-loop-round.new.progress.trace in
+    let refuses : IsRefusal (steps between) e = subst
+    (λ n. IsRefusal (inside (stmt_run setting n (length n) (stmt_view s')) between) e) same'
     c.in_err-inside-2.ensures.runs in
-    let at : IsPlaceOf e (stmt_place tracing names (length names) s after here) found =
-    placed_among e (λ n h. stmt_place tracing n (length n) s after h) names
-    c.inside.new.progress.store.variables.names here c.inside.new.progress.here found same' still'
-    c.in_err-inside-2.ensures.here in
-    let reported : Stands {X = Unit {0}} (Err e) whole here found =
-    body_placed test body place here found round m tested value store whole e
+    let at : IsPlaceOf e (next between own).here after.here =
+    placed_among e (λ n t. stmt_trace tracing n (length n) s' between t) names
+    c.inside.new.progress.store.variables.names own trace' after.here same' moved
+    c.in_err-inside-2.ensures.trace in
+    let reported : Traces {X = Unit {0}} (Err e) whole after =
+    body_placed test body traced round m tested value store trace whole after.here e
     c.loop-round-test.true left met holds turn
-    (second_refused (turns turning) steps after e ran refuses)
-    (second_placed (turns turning) e (own turning) found next after ran at) in
+    (second_refused (turns turning) steps between e ran refuses)
+    (second_placed (turns turning) e own after.here (λ turned. next turned own) between ran at) in
     search rules
 
-pub for_turns-returns-clause-here : goal.for_turns-returns-clause-here
-for_turns-returns-clause-here g t c =
+pub for_turns-returns-clause-trace : goal.for_turns-returns-clause-trace
+for_turns-returns-clause-trace g t c =
     let setting = setting_of c.args.self.now.task in
     let tracing = tracing_of c.args.self.now.task in
     let names = c.args.progress.now.store.variables.names in
     let p = progress_of c.args.progress.now in
-    let here = c.args.progress.now.here in
     let condition : Option tree.Expr = option_map (λ e. expr_view e.now) c.args.condition in
     let test : Test = condition_evaluated setting names condition in
-    let turns : Step = inside (stmt_run setting names (length names) (stmt_view c.args.body.now)) in
-    let steps : Step = inside (stmt_run setting names (length names) (stmt_view c.args.step.now)) in
+    let s = c.args.body.now in
+    let s' = c.args.step.now in
+    let turns : Step = inside (stmt_run setting names (length names) (stmt_view s)) in
+    let steps : Step = inside (stmt_run setting names (length names) (stmt_view s')) in
     let body : Step = λ turn. result_and_then (turns turn) steps in
-    let own : Where = λ turning.
-    stmt_place tracing names (length names) c.args.body.now turning here in
-    let next : Where = λ turned.
-    stmt_place tracing names (length names) c.args.step.now turned here in
-    let place : Where = λ turning. place_after (turns turning) (own turning) next in
-    let whole = for_turns_place tracing names condition c.args.step.now c.args.body.now here
-    (suc turn_limit) p in
+    let traced : Turn = turn_trace tracing names s' s in
+    let whole = for_turns_trace tracing names condition s' s (suc turn_limit) p
+    c.args.progress.now.trace in
     let round = c.loop-round._round in
-    let left = c.loop-round.invariant.place in
+    let left = c.loop-round.invariant.trace in
     let m = progress_of c.loop-round.progress in
-    placed_at c.fault.result whole c.loop-round.progress.here
-    (c.loop-round.invariant.here
-    ∙ sym (place_over test body place here round m whole (omega (arith, c.loop-round-test.false))
-    (omega (arith, c.loop-round.auto._round-end)) left))
+    let trace = c.loop-round.progress.trace in
+    placed_at c.fault.result whole.here trace.here
+    (ap (λ t. t.here) (sym (trace_over test body traced round m trace whole
+    (omega (arith, c.loop-round-test.false)) (omega (arith, c.loop-round.auto._round-end)) left)))

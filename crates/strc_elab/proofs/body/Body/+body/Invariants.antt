@@ -6,7 +6,7 @@ use Rattle.strc_semantics.specs.Firing.{turn_limit}
 use Rattle.strc_elab.specs.Elaboration as spec
 use Rattle.strc_elab.specs.Answering.{progress_of}
 use Rattle.strc_elab.specs.Loops.{while_looped, for_looped, names_after_block}
-use Rattle.strc_elab.specs.Places.{block_place, while_place, for_turns_place}
+use Rattle.strc_elab.specs.Places.{block_trace, while_trace, for_turns_trace}
 use Rattle.strc_elab.specs.Tasks.{setting_of, tracing_of}
 use Rattle.strc_elab.proofs.body.Body.+body.Given as goal
 
@@ -44,11 +44,10 @@ invariant-statements-loop-statement g l = record {
   names : names_after_block l.progress.store.variables.names
       (block_view (drop l.statement-index l.block))
       ≡ names_after_block l.initial.progress.store.variables.names (block_view l.block);
-  here : l.progress.here ≡ l.initial.progress.here;
-  place : block_place (tracing_of l.self.task) l.progress.store.variables.names l.start
-      (drop l.statement-index l.block) (progress_of l.progress) l.initial.progress.here
-      ≡ block_place (tracing_of l.self.task) l.initial.progress.store.variables.names l.start
-      l.block (progress_of l.initial.progress) l.initial.progress.here;
+  trace : block_trace (tracing_of l.self.task) l.progress.store.variables.names l.start
+      (drop l.statement-index l.block) (progress_of l.progress) l.progress.trace
+      ≡ block_trace (tracing_of l.self.task) l.initial.progress.store.variables.names l.start
+      l.block (progress_of l.initial.progress) l.initial.progress.trace;
 }
 
 abbrev pub invariant-while_turns-loop-round : goal.invariant-while_turns-loop-round
@@ -59,13 +58,12 @@ invariant-while_turns-loop-round g l = record {
       (expr_view l.condition) (stmt_view l.body) fuel (progress_of l.progress)
       ≡ while_looped (setting_of l.self.task) l.initial.progress.store.variables.names
       (expr_view l.condition) (stmt_view l.body) (suc turn_limit) (progress_of l.initial.progress);
-  here : l.progress.here ≡ l.initial.progress.here;
-  place : (fuel : ℕ) → fuel + l._round ≡ suc turn_limit
-      → while_place (tracing_of l.self.task) l.initial.progress.store.variables.names
-      (expr_view l.condition) l.body l.initial.progress.here fuel (progress_of l.progress)
-      ≡ while_place (tracing_of l.self.task) l.initial.progress.store.variables.names
-      (expr_view l.condition) l.body l.initial.progress.here (suc turn_limit)
-      (progress_of l.initial.progress);
+  trace : (fuel : ℕ) → fuel + l._round ≡ suc turn_limit
+      → while_trace (tracing_of l.self.task) l.initial.progress.store.variables.names
+      (expr_view l.condition) l.body fuel (progress_of l.progress) l.progress.trace
+      ≡ while_trace (tracing_of l.self.task) l.initial.progress.store.variables.names
+      (expr_view l.condition) l.body (suc turn_limit) (progress_of l.initial.progress)
+      l.initial.progress.trace;
 }
 
 abbrev pub invariant-for_turns-loop-round : goal.invariant-for_turns-loop-round
@@ -78,12 +76,11 @@ invariant-for_turns-loop-round g l = record {
       (setting_of l.self.task) l.initial.progress.store.variables.names
       (option_map (λ e. expr_view e.now) l.condition) (stmt_view l.step) (stmt_view l.body)
       (suc turn_limit) (progress_of l.initial.progress);
-  here : l.progress.here ≡ l.initial.progress.here;
-  place : (fuel : ℕ) → fuel + l._round ≡ suc turn_limit
-      → for_turns_place (tracing_of l.self.task) l.initial.progress.store.variables.names
-      (option_map (λ e. expr_view e.now) l.condition) l.step l.body l.initial.progress.here fuel
-      (progress_of l.progress)
-      ≡ for_turns_place (tracing_of l.self.task) l.initial.progress.store.variables.names
-      (option_map (λ e. expr_view e.now) l.condition) l.step l.body l.initial.progress.here
-      (suc turn_limit) (progress_of l.initial.progress);
+  trace : (fuel : ℕ) → fuel + l._round ≡ suc turn_limit
+      → for_turns_trace (tracing_of l.self.task) l.initial.progress.store.variables.names
+      (option_map (λ e. expr_view e.now) l.condition) l.step l.body fuel (progress_of l.progress)
+      l.progress.trace
+      ≡ for_turns_trace (tracing_of l.self.task) l.initial.progress.store.variables.names
+      (option_map (λ e. expr_view e.now) l.condition) l.step l.body (suc turn_limit)
+      (progress_of l.initial.progress) l.initial.progress.trace;
 }

@@ -5,11 +5,11 @@ use Rattle.strc_statements.specs.Saying.{store_of}
 use Rattle.strc_statements.specs.Texts.{parameters_of, is_doubled, text_of}
 use Rattle.strc_elab.specs.Answering.{progress_of, Runs}
 use Rattle.strc_elab.specs.Elaboration as spec
-use Rattle.strc_elab.specs.Places.{found_place}
+use Rattle.strc_elab.specs.Places.{found_trace}
 use Rattle.strc_elab.specs.Sources.{declaration_source, text_source}
 use Rattle.strc_elab.specs.Tasks.{setting_of, tracing_of, text_view}
 use Rattle.strc_elab.proofs.Children.{called_found, found_anew}
-use Rattle.strc_elab.proofs.Places.{stands_same}
+use Rattle.strc_elab.proofs.Places.{traces_same}
 use Rattle.strc_elab.proofs.body.Body.call.Goals as goal
 
 pub returns-clause-runs : goal.returns-clause-runs
@@ -51,13 +51,14 @@ returns-clause-runs g c =
     c.text_of-text.ensures.view c.elaborated.ensures.runs in
     subst (λ r. Runs r c.elaborated.result after) (sym whole) ran
 
-pub returns-clause-here : goal.returns-clause-here
-returns-clause-here g c =
+pub returns-clause-trace : goal.returns-clause-trace
+returns-clause-trace g c =
     let setting = setting_of c.args.self.now.task in
     let names = c.args.progress.now.store.variables.names in
     let p = progress_of c.args.progress.now in
     let tracing = tracing_of c.args.self.now.task in
-    let here = c.args.progress.now.here in
+    let trace = c.args.progress.now.trace in
+    let role = c.args.role in
     let text = c.text_of-text.result in
     let source = declaration_source c.args.declaration.now in
     let declaration = declaration_view c.args.declaration.now in
@@ -84,11 +85,13 @@ returns-clause-here g c =
     let called = called_found setting names [] c.args.number declaration arguments p.store store
     bound same given plain in
     let read : spec.Found = record found { text = text_view text } in
-    stands_same c.elaborated.result (found_place tracing (Ok read) (text_source text) p here)
-    (found_place tracing (spec.named_found setting names [] (Some (c.args.number, declaration))
-    arguments p.store) source p here) here c.elaborated.new.progress.here
-    (ap (λ o. found_place tracing o source p here) called
-    ∙ ap (λ t. found_place tracing (Ok (record found { text = t })) source p here)
+    traces_same c.elaborated.result
+    (found_trace tracing role (Ok read) (text_source text) p trace)
+    (found_trace tracing role (spec.named_found setting names []
+    (Some (c.args.number, declaration)) arguments p.store) source p trace)
+    c.elaborated.new.progress.trace
+    (ap (λ o. found_trace tracing role o source p trace) called
+    ∙ ap (λ t. found_trace tracing role (Ok (record found { text = t })) source p trace)
     (sym c.text_of-text.ensures.view)
-    ∙ ap (λ s. found_place tracing (Ok read) s p here) (sym c.text_of-text.ensures.source))
-    c.elaborated.ensures.here
+    ∙ ap (λ s. found_trace tracing role (Ok read) s p trace) (sym c.text_of-text.ensures.source))
+    c.elaborated.ensures.trace

@@ -1,29 +1,32 @@
-use Rattle.std.proofs.Common.{rules, ◌≡◌, ℕ, ◌-◌, Option, Result, Err, sym, ap, ◌∙◌, subst}
+use Rattle.std.proofs.Common.{rules, ◌≡◌, ◌-◌, Option, Result, Ok, Err, sym, ap, ◌∙◌, subst}
 use Rattle.std.specs.Option.{option_or}
 use Rattle.strc_base.specs.Results.{result_and_then}
 use Rattle.strc_base.specs.declared.place.Span.{Span}
 use Rattle.strc_statements.specs.Answers.{IsRefusal}
-use Rattle.strc_statements.specs.Texts.{Place}
 use Rattle.strc_statements.specs.declared.error.ElabError.{ElabError}
 use Rattle.strc_statements.proofs.Refusals.{first_refused}
-use Rattle.strc_elab.specs.Answering.{progress_of, Runs, Stands, IsPlaced, IsPlacedVerdict}
+use Rattle.strc_elab.specs.Answering.{progress_of, Runs, Traces, IsPlaced, IsPlacedVerdict}
 use Rattle.strc_elab.specs.Answering.{IsPlaceOf, IsWithin}
 use Rattle.strc_elab.specs.Elaboration as spec
-use Rattle.strc_elab.specs.Places.{place_after, stream_place}
+use Rattle.strc_elab.specs.Places.{place_after, child_traced, with_child, stream_place}
 use Rattle.strc_elab.specs.Sources.{text_source}
-use Rattle.strc_elab.specs.Tasks.{IsReady, IsTaskVerdict, setting_of, program_of, text_view}
+use Rattle.strc_elab.specs.Tasks.{IsReady, setting_of, program_of, place_of, text_view}
 use Rattle.strc_elab.specs.Tasks.{elaborated_view}
 use Rattle.strc_elab.specs.declared.placed.PlacedError.{PlacedError}
 use Rattle.strc_elab.specs.declared.task.Task.{Task}
-use Rattle.strc_elab.proofs.Places.{mapped_placed, first_placed}
+use Rattle.strc_elab.specs.declared.trace.Trace.{Trace}
+use Rattle.strc_elab.proofs.Levels.{IsJudged, judged_at}
+use Rattle.strc_elab.proofs.Places.{mapped_placed, first_placed, place_after_done, traces_same}
 use Rattle.strc_elab.proofs.body.Body.elaborated.Goals as goal
 
 pub returns-in_err-elaborated-clause-runs : goal.returns-in_err-elaborated-clause-runs
 unfolding IsReady
 returns-in_err-elaborated-clause-runs g c =
     let task = c.args.self.now.task in
-    let here = c.args.progress.now.here in
     let p = progress_of c.args.progress.now in
+    let trace = c.args.progress.now.trace in
+    let turns = c.args.progress.now.store.turns in
+    let filters = c.args.progress.now.filters in
     let below : Task = record {
       alloc = task.alloc;
       declarations = task.declarations;
@@ -34,45 +37,35 @@ returns-in_err-elaborated-clause-runs g c =
       text = c.args.text;
       totals = c.totals.result;
     } in
-    let place : Place = record {
-      declaration = c.args.declaration;
-      constants = c.args.constants.now;
-    } in
-    let judge : ℕ → ℕ → ℕ → Result spec.Elaborated ElabError = λ n t f.
-    spec.stream_elaborated (program_of task) n place (text_view c.args.text)
-    (record { turns = t; filters = f }) in
-    let turns = c.args.progress.now.store.turns in
-    let filters = c.args.progress.now.filters in
-    let judged = judge (task.levels - 1) turns filters in
-    let e = c.in_err-elaborated.field-0.0 in
-    let within : IsWithin c.in_own_text.result e here c.given_below.new.here =
-    c.in_err-elaborated.ensures in
-    let refusal : PlacedError = record { error = e; place = within.place } in
-    let answered : c.elaborate-answer.result ≡ Err refusal =
-    sym c.in_own_text.ensures ∙ within.answered in
     let level : c.saturating_sub.result ≡ task.levels - 1 = search rules in
-    let verdict : IsTaskVerdict below c.elaborate-answer.result =
-    c.requires.1.elaborates below c.elaborate-answer.result level c.elaborate-answer.ensures in
-    let same : judge c.saturating_sub.result c.totals.result.turns c.totals.result.filters
-    ≡ judged = ap (λ n. judge n c.totals.result.turns c.totals.result.filters) level
-    ∙ ap (λ t. judge (task.levels - 1) t c.totals.result.filters) c.totals.ensures.turns
-    ∙ ap (judge (task.levels - 1) turns) c.totals.ensures.filters in
-    let refuses : IsRefusal judged e = subst (λ r. IsRefusal r e) same
-    (subst (λ a. IsPlacedVerdict elaborated_view
-    (judge c.saturating_sub.result c.totals.result.turns c.totals.result.filters) a) answered
-    verdict.verdict) in
+    let answer = c.elaborate-answer.result in
+    let judged : IsJudged below (task.levels - 1) turns filters answer =
+    judged_at below (task.levels - 1) turns filters answer level c.totals.ensures.turns
+    c.totals.ensures.filters
+    (c.requires.1.elaborates below answer level c.elaborate-answer.ensures) in
+    let judge = spec.stream_elaborated (program_of task) (task.levels - 1) (place_of below)
+    (text_view c.args.text) (record { turns = turns; filters = filters }) in
+    let e = c.in_err-elaborated.field-0.0 in
+    let found = c.given_below.new.here in
+    let within : IsWithin c.in_own_text.result e trace.here found = c.in_err-elaborated.ensures in
+    let refusal : PlacedError = record { error = e; place = within.place } in
+    let answered : answer ≡ Err refusal = sym c.in_own_text.ensures ∙ within.answered in
+    let refuses : IsRefusal judge e =
+    subst (λ a. IsPlacedVerdict elaborated_view judge a) answered judged.verdict in
     let added : spec.Elaborated → Result spec.Progress ElabError =
     spec.child_added (setting_of task) c.args.role p p.store in
-    let reported : Runs (result_and_then judged added) (Err e) p =
-    first_refused judged added e refuses in
+    let reported : Runs (result_and_then judge added) (Err e) p =
+    first_refused judge added e refuses in
     search rules
 
-pub returns-in_err-elaborated-clause-here : goal.returns-in_err-elaborated-clause-here
+pub returns-in_err-elaborated-clause-trace : goal.returns-in_err-elaborated-clause-trace
 unfolding IsReady
-returns-in_err-elaborated-clause-here g c =
+returns-in_err-elaborated-clause-trace g c =
     let task = c.args.self.now.task in
-    let here = c.args.progress.now.here in
     let p = progress_of c.args.progress.now in
+    let trace = c.args.progress.now.trace in
+    let turns = c.args.progress.now.store.turns in
+    let filters = c.args.progress.now.filters in
     let below : Task = record {
       alloc = task.alloc;
       declarations = task.declarations;
@@ -83,49 +76,72 @@ returns-in_err-elaborated-clause-here g c =
       text = c.args.text;
       totals = c.totals.result;
     } in
-    let place : Place = record {
-      declaration = c.args.declaration;
-      constants = c.args.constants.now;
-    } in
-    let judge : ℕ → ℕ → ℕ → Result spec.Elaborated ElabError = λ n t f.
-    spec.stream_elaborated (program_of task) n place (text_view c.args.text)
-    (record { turns = t; filters = f }) in
+    let level : c.saturating_sub.result ≡ task.levels - 1 = search rules in
+    let answer = c.elaborate-answer.result in
+    let judged : IsJudged below (task.levels - 1) turns filters answer =
+    judged_at below (task.levels - 1) turns filters answer level c.totals.ensures.turns
+    c.totals.ensures.filters
+    (c.requires.1.elaborates below answer level c.elaborate-answer.ensures) in
+    let judge = spec.stream_elaborated (program_of task) (task.levels - 1) (place_of below)
+    (text_view c.args.text) (record { turns = turns; filters = filters }) in
+    let e = c.in_err-elaborated.field-0.0 in
+    let found = c.given_below.new.here in
+    let within : IsWithin c.in_own_text.result e trace.here found = c.in_err-elaborated.ensures in
+    let refusal : PlacedError = record { error = e; place = within.place } in
+    let answered : answer ≡ Err refusal = sym c.in_own_text.ensures ∙ within.answered in
+    let refuses : IsRefusal judge e =
+    subst (λ a. IsPlacedVerdict elaborated_view judge a) answered judged.verdict in
+    let located = stream_place task.declarations.now (task.levels - 1) (place_of below)
+    (text_source c.args.text) (record { turns = turns; filters = filters }) in
+    let own : Trace = record trace { here = option_or located trace.here } in
+    let next : spec.Elaborated → Trace = λ e. child_traced c.args.role p.types trace in
+    let at : IsPlaceOf e located within.place =
+    subst (λ a. IsPlaced located a) answered judged.place in
+    let moved : IsPlaceOf e own.here found = subst (λ s. IsPlaceOf e own.here s) (sym within.moved)
+    (mapped_placed e (λ s. option_or s trace.here) located within.place at) in
+    let after : Trace = record trace { here = found } in
+    let reported : Traces {X = Unit {0}} (Err e) (place_after judge own next) after =
+    first_placed judge e own found next refuses moved in
+    search rules
+
+pub returns-in-Add-clause-trace : goal.returns-in-Add-clause-trace
+unfolding IsReady
+returns-in-Add-clause-trace g c =
+    let task = c.args.self.now.task in
+    let p = progress_of c.args.progress.now in
+    let trace = c.args.progress.now.trace in
     let turns = c.args.progress.now.store.turns in
     let filters = c.args.progress.now.filters in
-    let judged = judge (task.levels - 1) turns filters in
-    let e = c.in_err-elaborated.field-0.0 in
-    let within : IsWithin c.in_own_text.result e here c.given_below.new.here =
-    c.in_err-elaborated.ensures in
-    let refusal : PlacedError = record { error = e; place = within.place } in
-    let answered : c.elaborate-answer.result ≡ Err refusal =
-    sym c.in_own_text.ensures ∙ within.answered in
+    let below : Task = record {
+      alloc = task.alloc;
+      declarations = task.declarations;
+      numbers = task.numbers;
+      levels = c.saturating_sub.result;
+      declaration = c.args.declaration;
+      constants = c.args.constants;
+      text = c.args.text;
+      totals = c.totals.result;
+    } in
     let level : c.saturating_sub.result ≡ task.levels - 1 = search rules in
-    let verdict : IsTaskVerdict below c.elaborate-answer.result =
-    c.requires.1.elaborates below c.elaborate-answer.result level c.elaborate-answer.ensures in
-    let same : judge c.saturating_sub.result c.totals.result.turns c.totals.result.filters
-    ≡ judged = ap (λ n. judge n c.totals.result.turns c.totals.result.filters) level
-    ∙ ap (λ t. judge (task.levels - 1) t c.totals.result.filters) c.totals.ensures.turns
-    ∙ ap (judge (task.levels - 1) turns) c.totals.ensures.filters in
-    let refuses : IsRefusal judged e = subst (λ r. IsRefusal r e) same
-    (subst (λ a. IsPlacedVerdict elaborated_view
-    (judge c.saturating_sub.result c.totals.result.turns c.totals.result.filters) a) answered
-    verdict.verdict) in
-    let locate : ℕ → ℕ → ℕ → Option Span = λ n t f.
-    stream_place task.declarations.now n place (text_source c.args.text)
-    (record { turns = t; filters = f }) in
-    let located = locate (task.levels - 1) turns filters in
-    let same' : locate c.saturating_sub.result c.totals.result.turns c.totals.result.filters
-    ≡ located = ap (λ n. locate n c.totals.result.turns c.totals.result.filters) level
-    ∙ ap (λ t. locate (task.levels - 1) t c.totals.result.filters) c.totals.ensures.turns
-    ∙ ap (locate (task.levels - 1) turns) c.totals.ensures.filters in
-    let at : IsPlaceOf e located within.place = subst (λ s. IsPlaceOf e s within.place) same'
-    (subst (λ a. IsPlaced (locate c.saturating_sub.result c.totals.result.turns
-    c.totals.result.filters) a) answered verdict.place) in
-    let found = c.given_below.new.here in
-    let own = option_or located here in
-    let moved : IsPlaceOf e own found = subst (λ s. IsPlaceOf e own s) (sym within.moved)
-    (mapped_placed e (λ s. option_or s here) located within.place at) in
-    let next : spec.Elaborated → Option Span = λ elaborated. here in
-    let reported : Stands {X = Unit {0}} (Err e) (place_after judged own next) here found =
-    first_placed judged e own found next refuses moved in
-    search rules
+    let answer = c.elaborate-answer.result in
+    let judged : IsJudged below (task.levels - 1) turns filters answer =
+    judged_at below (task.levels - 1) turns filters answer level c.totals.ensures.turns
+    c.totals.ensures.filters
+    (c.requires.1.elaborates below answer level c.elaborate-answer.ensures) in
+    let judge = spec.stream_elaborated (program_of task) (task.levels - 1) (place_of below)
+    (text_view c.args.text) (record { turns = turns; filters = filters }) in
+    let located = stream_place task.declarations.now (task.levels - 1) (place_of below)
+    (text_source c.args.text) (record { turns = turns; filters = filters }) in
+    let own : Trace = record trace { here = option_or located trace.here } in
+    let next : spec.Elaborated → Trace = λ e. child_traced c.args.role p.types trace in
+    let elaborated = c.in_ok-elaborated.elaborated in
+    let answered : answer ≡ Ok elaborated =
+    sym c.in_own_text.ensures ∙ c.in_ok-elaborated.ensures.0 in
+    let gives : judge ≡ Ok (elaborated_view elaborated) =
+    subst (λ a. IsPlacedVerdict elaborated_view judge a) answered judged.verdict in
+    let added : Option Span → Trace = λ h. with_child p.types (record trace { here = h }) in
+    traces_same c.add.result (added c.given_below.new.here) (place_after judge own next)
+    c.add.new.progress.trace
+    (place_after_done judge own next (elaborated_view elaborated) gives
+    ∙ ap (λ r. child_traced r p.types trace) c.in-Add.is
+    ∙ ap added (sym c.in_ok-elaborated.ensures.1)) c.add.ensures.trace
