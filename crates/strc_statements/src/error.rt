@@ -162,16 +162,6 @@ impl ElabError {
     }
 }
 
-/// An answer; where it is an error without a place, at this one.
-pub fn placed<T>(place: Option<Span>, answer: Result<T, ElabError>) -> Result<T, ElabError>
-    ensures { result ≡ answer }
-{
-    match answer {
-        Ok(value) => Ok(value),
-        Err(error) => Err(error.or_at(place)),
-    }
-}
-
 impl From<NoMemory> for ElabError {
     ghost from_gives = { λ _ e. e ≡ refused.NoMemory };
 
