@@ -64,8 +64,8 @@ stream_place-level declarations (suc levels) place source totals some =
     }) source totals) below
 
 -- a task's answer, where its levels and totals are these
-pub record IsJudged (task : Task) (levels turns filters : ℕ) (answer : Result Elaborated PlacedError)
-    : Type 0 where
+pub record IsJudged (task : Task) (levels turns filters : ℕ)
+    (answer : Result Elaborated PlacedError) : Type 0 where
   pub verdict : IsPlacedVerdict elaborated_view (stream_elaborated (program_of task) levels
       (place_of task) (text_view task.text) (record { turns = turns; filters = filters })) answer
   pub place : IsPlaced (stream_place task.declarations.now levels (place_of task)

@@ -59,8 +59,8 @@ placed_at refused.NoMemory expected found is = tt
 
 -- the first of two steps is refused
 pub first_refused_at : {A T : Type 0} (r : Result A ElabError) (e : ElabError)
-    (at : T → Option Span) (own : T) (found : Option Span) (next : A → T) → IsRefusal r e → IsPlaceOf e (at own) found
-    → IsPlaceOf e (at (place_after r own next)) found
+    (at : T → Option Span) (own : T) (found : Option Span) (next : A → T) → IsRefusal r e
+    → IsPlaceOf e (at own) found → IsPlaceOf e (at (place_after r own next)) found
 first_refused_at r e at own found next h is =
     placed_as r e (at own) (at (place_after r own next)) found
     (λ same. ap (λ x. at (place_after x own next)) same) h is
