@@ -31,8 +31,9 @@ use Rattle.strc_grammar.proofs.Stops.{expr_length}
 use Rattle.strc_grammar.proofs.VariableCompleteness.{variable_length, type_length}
 use Rattle.strc_grammar.proofs.SimpleCompleteness.{heading_height, part_length, step_first}
 use Rattle.strc_grammar.proofs.SimpleCompleteness.{optional_length, stmt_height_some}
-use Rattle.strc_grammar.proofs.Soundness.{Sound, Sound-ok, Sound-then, Sound-on, Sound-expect, Sound-name}
-use Rattle.strc_grammar.proofs.Soundness.{Sound-raised, Stopped, repeated_soundness, punctuation_is}
+use Rattle.strc_grammar.proofs.Soundness.{Sound, Sound-ok, Sound-then, Sound-on, Sound-expect}
+use Rattle.strc_grammar.proofs.Soundness.{Sound-name, Sound-raised, Stopped, repeated_soundness}
+use Rattle.strc_grammar.proofs.Soundness.{punctuation_is}
 use Rattle.strc_grammar.proofs.Soundness.{comma_is, no_comma_is, each_spelled-push, highest-push}
 use Rattle.strc_grammar.proofs.Soundness.{All-push}
 use Rattle.strc_grammar.proofs.ExpressionRead.{ExprRead, ClosedRead, closed_soundness}

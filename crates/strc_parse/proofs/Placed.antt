@@ -1,7 +1,8 @@
 -- Statements that were read are at the places of the tokens that spell them.
 use Rattle.std.proofs.Common.{◌≡◌, ℕ, ◌-◌, ◌+◌, List, [], ◌∷◌, ◌++◌, length, map, Ok, Result, refl}
 use Rattle.std.proofs.lemmas.Bool.{eqb-true}
-use Rattle.std.proofs.Common.{Some, ◌<◌, eqb, true, ap, sym, subst, ◌∙◌, Option, suc, IfOk, Err, inl, inr, arith}
+use Rattle.std.proofs.Common.{Some, ◌<◌, eqb, true, ap, sym, subst, ◌∙◌, Option, suc, IfOk, Err}
+use Rattle.std.proofs.Common.{inl, inr, arith}
 use Rattle.std.specs.Option.{option_map}
 use Rattle.std.specs.Global.{Vec}
 use mathlib.Core.Former.{Count}
@@ -14,7 +15,8 @@ use Rattle.strc_lex.specs.declared.token.Keyword.TheVariants as keyword
 use Rattle.strc_lex.specs.declared.token.Punctuation.{Punctuation}
 use Rattle.strc_lex.specs.declared.token.Punctuation.TheVariants as punctuation
 use Rattle.strc_syntax.specs.declared.tree.Expr.{Expr}
-use Rattle.strc_syntax.specs.declared.tree.Stmt.{Stmt, Block, Row_of-Stmt, end_of-Stmt, more_of-Stmt}
+use Rattle.strc_syntax.specs.declared.tree.Stmt.{Stmt, Block, Row_of-Stmt, end_of-Stmt}
+use Rattle.strc_syntax.specs.declared.tree.Stmt.{more_of-Stmt}
 use Rattle.strc_syntax.specs.declared.tree.Stmt.{Block', items-the_row-Stmt}
 use Rattle.strc_syntax.specs.declared.tree.Stmt.{items_hidden-the_row-Stmt-1}
 use Rattle.strc_syntax.specs.declared.tree.Stmt.TheVariants as stmt
@@ -51,7 +53,8 @@ use Rattle.strc_grammar.specs.Streams as streams
 use Rattle.strc_grammar.specs.declared.parsed.Parsed.{Parsed}
 use Rattle.strc_grammar.specs.Grammar.{IsFirst, optional_spelled, part_spelled}
 use Rattle.strc_syntax.specs.View.{expr_view}
-use Rattle.strc_grammar.specs.Reading.{Gives, after_first, ended, expect, is_keyword, optional, tail}
+use Rattle.strc_grammar.specs.Reading.{Gives, after_first, ended, expect, is_keyword, optional}
+use Rattle.strc_grammar.specs.Reading.{tail}
 use Rattle.strc_grammar.specs.declared.error.ReadError.{ReadError}
 use Rattle.strc_grammar.proofs.SimpleSoundness.{EndedRead, after_first_is_spelled, ended_soundness}
 use Rattle.strc_grammar.proofs.SimpleSoundness.{step_is_spelled}
@@ -583,9 +586,8 @@ pub parts_grown : (d : ℕ) (all : List Token) (so_far : Parsed (Vec Member))
     → ArePartsPlaced all so_far.value.items (kinds so_far.rest.now)
     → ArePartsPlaced all x.value.items (kinds x.rest.now)
 parts_grown d all so_far next x grown gives is placed =
-    let gave = subst (λ (r : Result (Parsed Member) ReadError).
-    Gives (parsed member_view) r (streams.member d (statement d) (kinds so_far.rest.now))) grown.1 gives
-    in
+    let gave = subst (λ (r : Result (Parsed Member) ReadError). Gives (parsed member_view) r
+    (streams.member d (statement d) (kinds so_far.rest.now))) grown.1 gives in
     let spelled = member_is_spelled d (statement d) (λ ts. statement_soundness d ts)
     (kinds so_far.rest.now) _ _ _ gave in
     rw (grown.2, grown.4) (parts_push all so_far.value.items grown.0.value (kinds grown.0.rest.now)

@@ -62,7 +62,8 @@ spelled_place all spelled rest = place_between all (length spelled) (length rest
 
 -- a rate is at its place, before these tokens
 abbrev pub IsRatePlaced : (all : List Token) → RateTree → (rest : List TokenKind) → Type 0
-IsRatePlaced all rate rest = rate.place ≡ spelled_place all (rate_spelled (rate_view rate) rest) rest
+IsRatePlaced all rate rest =
+    rate.place ≡ spelled_place all (rate_spelled (rate_view rate) rest) rest
 
 -- rates one after another
 abbrev pub AreRatesPlaced : (all : List Token) → List RateTree → (rest : List TokenKind) → Type 0
@@ -212,7 +213,7 @@ AreStreamsPlaced all (first ∷ others) rest =
     (each_spelled declaration_spelled (map declaration_view others) rest)
     × AreStreamsPlaced all others rest
 
--- each statement, rate and declaration of fields of a program that these tokens spell is at the place
--- of the tokens that spell it
+-- each statement, rate and declaration of fields of a program that these tokens spell is at the
+-- place of the tokens that spell it
 abbrev pub IsProgramPlaced : (all : List Token) → Program → Type 0
 IsProgramPlaced all program = AreStreamsPlaced all program.declarations.items []

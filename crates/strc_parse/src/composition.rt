@@ -35,7 +35,8 @@ fn named_child<'t>(
     name: Name,
     tokens: &'t [Token],
 ) -> Result<Parsed<'t, Child>, ReadError>
-    ensures gives { Gives (parsed child_view) result (spec.named_child limit name (kinds tokens.now)) }
+    ensures gives { Gives (parsed child_view) result
+        (spec.named_child limit name (kinds tokens.now)) }
     ensures plain { IfOk result (λ r. (all : List Token) (rest : List TokenKind)
         → IsChildPlaced all r.value rest) }
 {
@@ -141,7 +142,7 @@ where
     F: Fn(Global, &'t [Token], usize, &'t [Token]) -> Result<Parsed<'t, Stmt>, ReadError>,
 {
     /// A filter without a name: after its keyword.
-    #[tactic(auto, unfolding(strc_grammar::specs::Streams::anonymous_filter), using(crate::proofs::Placed::filter_placed))]
+    #[tactic(auto, unfolding(strc_grammar::specs::Streams::anonymous_filter))]
     fn anonymous_filter(
         &self,
         types: StreamType,
@@ -165,7 +166,7 @@ where
     }
 
     /// A composite stream without a name: at its kind.
-    #[tactic(auto, unfolding(strc_grammar::specs::Streams::anonymous_composite), using(crate::proofs::Placed::composite_placed))]
+    #[tactic(auto, unfolding(strc_grammar::specs::Streams::anonymous_composite))]
     fn anonymous_composite(
         &self,
         types: Option<StreamType>,

@@ -26,8 +26,8 @@ use strc_lex::token::{Keyword, Punctuation, Token, TokenKind};
 use strc_syntax::node::{block_of, for_of, if_else_of, if_of, while_of};
 use strc_syntax::tree::{Expr, Member, Stmt};
 
-/// The rules of statements of at most this height in a text of these tokens, by a reader of those of
-/// one less. What is read is among the last of the tokens.
+/// The rules of statements of at most this height, by a reader of those of one less, in a text of
+/// these tokens. What is read is among the last of them.
 #[derive(Clone, Copy)]
 pub(crate) struct StatementRules<'t, F> {
     pub(crate) alloc: Global,
@@ -195,7 +195,7 @@ where
     }
 
     /// What follows a branch, to which an `else` belongs that comes next.
-    #[tactic(auto, unfolding(strc_grammar::specs::Streams::after_branch), using(crate::proofs::Placed::if_within))]
+    #[tactic(auto, unfolding(strc_grammar::specs::Streams::after_branch))]
     fn after_branch(
         &self,
         condition: Parsed<'t, Expr>,
@@ -220,7 +220,7 @@ where
     }
 
     /// The branch after the `else` that comes next, with what is before it.
-    #[tactic(auto, unfolding(strc_grammar::specs::Streams::other_branch), using(crate::proofs::Placed::if_else_joined))]
+    #[tactic(auto, unfolding(strc_grammar::specs::Streams::other_branch))]
     fn other_branch(
         &self,
         condition: Parsed<'t, Expr>,
@@ -244,7 +244,7 @@ where
     }
 
     /// `while`: after the keyword.
-    #[tactic(auto, unfolding(strc_grammar::specs::Streams::while_loop), using(crate::proofs::Placed::while_within))]
+    #[tactic(auto, unfolding(strc_grammar::specs::Streams::while_loop))]
     fn while_loop(&self, tokens: &'t [Token]) -> Result<Parsed<'t, Stmt>, ReadError>
         requires deep { 0 < self.now.depth }
         requires reads { ReadsStatements self.now.all.now (self.now.depth - 1)
@@ -261,7 +261,7 @@ where
     }
 
     /// `for`: after the keyword.
-    #[tactic(auto, unfolding(strc_grammar::specs::Streams::for_loop), using(crate::proofs::Placed::for_within))]
+    #[tactic(auto, unfolding(strc_grammar::specs::Streams::for_loop))]
     fn for_loop(&self, tokens: &'t [Token]) -> Result<Parsed<'t, Stmt>, ReadError>
         requires deep { 0 < self.now.depth }
         requires reads { ReadsStatements self.now.all.now (self.now.depth - 1)
@@ -281,7 +281,7 @@ where
     }
 
     /// A block as a statement: after its brace.
-    #[tactic(auto, unfolding(strc_grammar::specs::Streams::block), using(crate::proofs::Placed::block_within))]
+    #[tactic(auto, unfolding(strc_grammar::specs::Streams::block))]
     fn block(&self, tokens: &'t [Token]) -> Result<Parsed<'t, Stmt>, ReadError>
         requires deep { 0 < self.now.depth }
         requires reads { ReadsStatements self.now.all.now (self.now.depth - 1)

@@ -136,7 +136,7 @@ where
     }
 
     /// An initialisation: after the keyword.
-    #[tactic(auto, unfolding(strc_grammar::specs::Streams::init), using(crate::proofs::Placed::init_placed))]
+    #[tactic(auto, unfolding(strc_grammar::specs::Streams::init))]
     fn init(&self, tokens: &'t [Token]) -> Result<Parsed<'t, Member>, ReadError>
         requires deep { 0 < self.now.depth }
         requires reads { ReadsStatements self.now.all.now (self.now.depth - 1)
@@ -204,7 +204,7 @@ where
     }
 
     /// A helper function: after its type.
-    #[tactic(auto, unfolding(strc_grammar::specs::Streams::helper_function), using(crate::proofs::Placed::helper_placed))]
+    #[tactic(auto, unfolding(strc_grammar::specs::Streams::helper_function))]
     fn helper_function(
         &self,
         kind: HelperType,

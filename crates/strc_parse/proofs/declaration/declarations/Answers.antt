@@ -3,7 +3,7 @@ use Rattle.std.proofs.Common.{rules, List, subst}
 use Rattle.std.proofs.lemmas.Result.{err_from_is_err_and}
 use Rattle.std.proofs.lemmas.List.{map_push}
 use Rattle.strc_syntax.specs.View.{declaration_view}
-use Rattle.strc_grammar.specs.Grammar.{kinds, height_limit}
+use Rattle.strc_grammar.specs.Grammar.{declaration_spelled, height_limit, kinds}
 use Rattle.strc_grammar.specs.Reading.{one_more}
 use Rattle.strc_grammar.specs.Streams.{at_end, declaration, declarations}
 use Rattle.strc_grammar.proofs.Repeated.{Fails-then, end_reached, end_ahead}
@@ -45,15 +45,18 @@ loop-rest-preserved c =
     rw c.in_ok-push.ensures.items (map_push _ c.loop-rest.found.items c.in_ok-next.next) in
     let one : one_more (declaration height_limit) front (kinds c.loop-rest.rest.now)
     ≡ Ok (front ++ next ∷ [], kinds c.in_ok-next.after.now) = rw c.in_ok-next.ensures.gives refl in
-    let less = declaration_shorter _ _ _ c.in_ok-next.ensures.gives in (
-      rw e (goes_on at_end (one_more (declaration height_limit)) _ front (kinds c.loop-rest.rest.now)
-          c.loop-rest.invariant.0 _ _ less (end_ahead c.loop-rest.rest.now
-          (sym c.is_empty.ensures ∙ c.loop-rest-test.true)) one),
-      rw c.in_ok-push.ensures.items (streams_push c.args.tokens.now c.loop-rest.found.items
-          c.in_ok-next.next (kinds c.in_ok-next.after.now)
-          (subst (λ (rest : List TokenKind). AreStreamsPlaced c.args.tokens.now c.loop-rest.found.items
-          rest) (declaration_is_spelled _ _ _ c.in_ok-next.ensures.gives) c.loop-rest.invariant.1)
-          c.in_ok-next.ensures.placed),
+    let less = declaration_shorter _ _ _ c.in_ok-next.ensures.gives in
+    let tokens = c.args.tokens.now in
+    let found = c.loop-rest.found.items in
+    let before : AreStreamsPlaced tokens found
+    (declaration_spelled (declaration_view c.in_ok-next.next) (kinds c.in_ok-next.after.now)) =
+    subst (λ (rest : List TokenKind). AreStreamsPlaced tokens found rest)
+    (declaration_is_spelled _ _ _ c.in_ok-next.ensures.gives) c.loop-rest.invariant.1 in (
+      rw e (goes_on at_end (one_more (declaration height_limit)) _ front
+          (kinds c.loop-rest.rest.now) c.loop-rest.invariant.0 _ _ less
+          (end_ahead c.loop-rest.rest.now (sym c.is_empty.ensures ∙ c.loop-rest-test.true)) one),
+      rw c.in_ok-push.ensures.items (streams_push tokens found c.in_ok-next.next
+          (kinds c.in_ok-next.after.now) before c.in_ok-next.ensures.placed),
     )
 
 pub loop-rest-smaller : goal.loop-rest-smaller
