@@ -8,7 +8,7 @@ use std::alloc::AllocError;
 use strc_base::place::Span;
 use strc_statements::error::ElabError;
 
-/// The first rule that is broken, and the innermost statement that ran, where its place is known.
+/// The first rule that is broken, and the place of the statement that broke it, where it is known.
 #[derive(Drop)]
 pub struct PlacedError {
     pub error: ElabError,
