@@ -61,7 +61,7 @@ pub fn answer_to<G: Gate<Stage>, R: Threads + Wait + Sync, I: Source>(
     };
     let plan = match compile_or_where(alloc, text, &options) {
         Ok(plan) => plan,
-        Err(refused) => return Ok(Err(Stop::Refused(refused))),
+        Err(placed) => return Ok(Err(Stop::Refused(placed.refused))),
     };
     match command {
         Command::Run {

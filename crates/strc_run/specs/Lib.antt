@@ -1,6 +1,7 @@
 pub mod Accepts
 pub mod Choices
 pub mod Laws
+pub mod Located
 pub mod Plans
 pub mod Rates
 pub mod Refuses

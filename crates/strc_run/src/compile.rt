@@ -1,23 +1,29 @@
 // From the text to the plan, or the first refusal.
 
-ghost use Rattle.std.specs.Prelude.{◌≡◌, ℕ, List, Err, IfOk, IfErr};
+ghost use Rattle.std.specs.Prelude.{◌≡◌, ℕ, List, None, Err, IfOk, IfErr, OnOk};
 ghost use Rattle.std.specs.Option.{option_map};
 ghost use Rattle.strc_syntax.specs.View.{program_view};
 ghost use Rattle.strc_parse.specs.Texts.{Spells};
 ghost use Rattle.strc_run.specs.Choices.{choice_of};
+ghost use Rattle.strc_run.specs.Located.{HasPlacedPlan, IsAtStatement, IsLocated, IsRead};
+ghost use Rattle.strc_run.specs.Located.{IsMainStream, refusal_in};
+ghost use Rattle.strc_elab.specs.Elaboration.{elaborated};
+ghost use Rattle.strc_elab.specs.Sound.{IsElaborated};
+ghost use Rattle.strc_stream.specs.View.{stream_view};
 ghost use Rattle.strc_run.specs.Plans.{HasPlan};
 ghost use Rattle.strc_run.specs.Streams.{HasStream};
 ghost use Rattle.strc_run.specs.Refuses.{HasNoBalance, IsReadRefusal};
 ghost use Rattle.strc_refusal.specs.declared.refusal.Refusal.TheVariants as refused;
 
 use crate::options::Options;
+use crate::placed::PlacedRefusal;
 use crate::rates::check_rates;
 use crate::refusal::Refusal;
 use crate::transforming::transformed;
 use std::alloc::Global;
 use strc_balance::balance::balance;
 use strc_base::place::Span;
-use strc_elab::elaborate::elaborate;
+use strc_elab::elaborate::{elaborate, elaborate_placed};
 use strc_flatten::flatten::flatten;
 use strc_fuse::laws::schedules_can_be_fused;
 use strc_lex::error::LexError;
@@ -42,7 +48,7 @@ pub fn compile(alloc: Global, text: &[u8], options: &Options) -> Result<Plan, Re
 {
     match compile_or_where(alloc, text, options) {
         Ok(plan) => Ok(plan),
-        Err(refused) => Err(refused.into_refusal()),
+        Err(placed) => Err(placed.refused.into_refusal()),
     }
 }
 
@@ -51,21 +57,33 @@ pub fn compile(alloc: Global, text: &[u8], options: &Options) -> Result<Plan, Re
 /// The first rule that is broken refuses the text: those of its tokens, its tree, its elaboration,
 /// its flat graph, its rates, its balance, its start-up, its schedule, and the nodes and the sizes
 /// after fission and fusion. `NoMemory` can come in place of any answer.
-pub fn compile_or_where(alloc: Global, text: &[u8], options: &Options) -> Result<Plan, Refused>
-    ensures plan { HasPlan text.now (choice_of options.now) result }
+pub fn compile_or_where(
+    alloc: Global,
+    text: &[u8],
+    options: &Options,
+) -> Result<Plan, PlacedRefusal>
+    ensures plan { HasPlacedPlan text.now (choice_of options.now) result }
     // No positive counts balance a graph that is answered to be inconsistent.
-    ensures inconsistent { (channel : ℕ) → result ≡ Err (refused.Inconsistent channel)
+    ensures inconsistent { (channel : ℕ) → refusal_in result ≡ Err (refused.Inconsistent channel)
         → HasNoBalance text.now (choice_of options.now) }
+    // The statement is that of the elaboration, where the tokens of the text spell it.
+    ensures located { IfErr result (λ placed. IsLocated text.now (choice_of options.now)
+        placed.refused placed.statement) }
 {
+    let mut statement = None;
     match read_program(alloc, text) {
-        Ok(program) => compile_program(
+        Ok(program) => match compile_program(
             alloc,
             &program,
             options.main_name(),
             options.ways,
             options.fuse,
-        ),
-        Err(refused) => Err(refused),
+            &mut statement,
+        ) {
+            Ok(plan) => Ok(plan),
+            Err(refused) => Err(PlacedRefusal { refused, statement }),
+        },
+        Err(refused) => Err(PlacedRefusal { refused, statement }),
     }
 }
 
@@ -85,23 +103,29 @@ pub fn stream_of(alloc: Global, text: &[u8], options: &Options) -> Result<Stream
     }
 }
 
-// The plan of a program that was read, of whatever text spells it.
+// The plan of a program that was read, of whatever text spells it; and the statement that refuses
+// it, if its elaboration does.
+#[tactic(auto, using(crate::proofs::Located::after_elaboration))]
 fn compile_program(
     alloc: Global,
     program: &Program,
     main: Option<&str>,
     ways: u32,
     fuse: u32,
+    statement: &mut Option<Span>,
 ) -> Result<Plan, Refused>
-    ensures { (text : List ℕ) → Spells text (program_view program.now)
+    requires { statement.old ≡ None }
+    ensures plan { (text : List ℕ) → Spells text (program_view program.now)
         → HasPlan text (record
         { main = option_map (λ n. n.now) main.entry; ways = ways; fuse = fuse }) result }
+    ensures statement { IsAtStatement program.now (option_map (λ n. n.now) main.entry) result
+        statement.new }
 {
     // The nodes of a stream move items, which their rates stand on.
     nodes_deal();
     // A greedy schedule can be fused.
     schedules_can_be_fused();
-    let stream = elaborate(alloc, program, main)?;
+    let stream = main_stream(alloc, program, main, statement)?;
     let graph = match flatten(alloc, &stream) {
         Ok(graph) => graph,
         Err(error) => return Err(Refused::from(error).of_stream(stream)),
@@ -129,9 +153,34 @@ fn compile_program(
     Ok(plan)
 }
 
+// The main stream of a program; and the statement that refuses it.
+#[tactic(auto, using(crate::proofs::Located::in_elaboration))]
+fn main_stream(
+    alloc: Global,
+    program: &Program,
+    main: Option<&str>,
+    statement: &mut Option<Span>,
+) -> Result<Stream, Refused>
+    ensures verdict { IsMainStream (elaborated (program_view program.now)
+        (option_map (λ n. n.now) main.entry)) result }
+    ensures sound { IfOk result (λ stream. IsElaborated (stream_view stream)) }
+    ensures kept { OnOk result (statement.new ≡ statement.old) }
+    ensures statement { IsAtStatement program.now (option_map (λ n. n.now) main.entry) result
+        statement.new }
+{
+    match elaborate_placed(alloc, program, main) {
+        Ok(stream) => Ok(stream),
+        Err(placed) => {
+            *statement = placed.place;
+            Err(Refused::from(placed.error.or_at(placed.place)))
+        }
+    }
+}
+
 // The program that the text spells.
 fn read_program(alloc: Global, text: &[u8]) -> Result<Program, Refused>
     ensures read { IfOk result (λ program. Spells text.now (program_view program)) }
+    ensures placed { IfOk result (IsRead text.now) }
     ensures refused { IfErr result (λ e. IsReadRefusal text.now e) }
 {
     let tokens = match lex(alloc, text) {

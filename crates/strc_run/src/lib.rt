@@ -12,6 +12,7 @@
 pub mod compile;
 pub mod laws;
 pub mod options;
+pub mod placed;
 mod rates;
 pub mod run;
 mod transforming;

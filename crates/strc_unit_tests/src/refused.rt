@@ -92,6 +92,12 @@ const REFUSED_PROGRAMS: &str = "\
 { add S; add E; } int->void pipeline E { while (true) { push(1); } } => push(1);
 { add splitjoin { split roundrobin(true); join roundrobin; }; } => split roundrobin(true);
 { add S; while (true) { } } => while (true) { }
+{ add S; add splitjoin { split roundrobin(1, 2); add E; join roundrobin; }; add T; } \
+    int->int pipeline E { add Identity<int>; } => split roundrobin(1, 2);
+{ add S; add splitjoin { split duplicate; add E; join roundrobin(-1); }; add T; } \
+    int->int pipeline E { add Identity<int>; } => join roundrobin(-1);
+{ add S; add E; } int->void pipeline E { add Identity<int>; } => add Identity<int>;
+{ add E; add T; } void->int pipeline E { add Identity<int>; } => add Identity<int>;
 ";
 
 #[test]

@@ -1,4 +1,6 @@
-use Rattle.std.proofs.Common.{List, map, sym, ap, ◌∙◌, subst, Err, arith}
+use Rattle.std.proofs.Common.{◌≡◌, List, map, sym, ap, ◌∙◌, subst, Err, arith}
+use Rattle.std.specs.Result.{IsErrAnd}
+use Rattle.strc_refusal.specs.declared.refusal.Refusal.{Refusal}
 use Rattle.std.specs.List.{AllByRecursion}
 use Rattle.strc_graph.specs.Graphs.{NodeCode}
 use Rattle.strc_stream.specs.View.{stream_view}
@@ -16,14 +18,16 @@ use Rattle.strc_balance.specs.Balance.{count_at}
 use Rattle.strc_run.proofs.PlannedGraphs.{graph_has_plan}
 use Rattle.strc_run.proofs.compile.compile_program.Goals as goal
 
-pub returns-in_err-stream : goal.returns-in_err-stream
-returns-in_err-stream c = λ text spells.
-    refusal_reported _ _ c.from_residual.result
-    (refusal_of c.in_err-stream.field-0.0) c.from_residual.ensures.1
-    (elaboration_refused _ _ _ spells c.in_err-stream.field-0.0 c.in_err-stream.ensures.verdict)
+pub returns-in_err-stream-clause-plan : goal.returns-in_err-stream-clause-plan
+returns-in_err-stream-clause-plan c = λ text spells.
+    let broken = c.in_err-stream.ensures.verdict in
+    refusal_reported _ _ c.from_residual.result (refusal_of broken.0)
+    (subst (λ (r : Refusal). IsErrAnd c.from_residual.result (λ found. found ≡ r)) broken.2
+    c.from_residual.ensures.1)
+    (elaboration_refused _ _ _ spells broken.0 broken.1)
 
-pub returns-in-Err : goal.returns-in-Err
-returns-in-Err c = λ text spells.
+pub returns-in-Err-clause-plan : goal.returns-in-Err-clause-plan
+returns-in-Err-clause-plan c = λ text spells.
     let elaborates = c.in_ok-stream.ensures.verdict in
     let sound = c.in_ok-stream.ensures.sound in
     refusal_told _ _ _
@@ -31,8 +35,8 @@ returns-in-Err c = λ text spells.
     (graph_refused _ _ _ spells _ elaborates c.in-Err.error
     (c.in-Err.ensures.verdict sound.closed.typed))
 
-pub returns-in-Err-check_rates : goal.returns-in-Err-check_rates
-returns-in-Err-check_rates c = λ text spells.
+pub returns-in-Err-check_rates-clause-plan : goal.returns-in-Err-check_rates-clause-plan
+returns-in-Err-check_rates-clause-plan c = λ text spells.
     let elaborates = c.in_ok-stream.ensures.verdict in
     let sound = c.in_ok-stream.ensures.sound in
     let same = ap (map node_view) c.nodes.ensures ∙ c.in-Ok.ensures.nodes in
@@ -57,8 +61,8 @@ balance-requires-clause-connected c =
     let sound = c.in_ok-stream.ensures.sound in
     c.in-Ok.ensures.connected sound.closed.typed
 
-pub returns-in-Err-balance : goal.returns-in-Err-balance
-returns-in-Err-balance c = λ text spells.
+pub returns-in-Err-balance-clause-plan : goal.returns-in-Err-balance-clause-plan
+returns-in-Err-balance-clause-plan c = λ text spells.
     let elaborates = c.in_ok-stream.ensures.verdict in
     let sound = c.in_ok-stream.ensures.sound in
     let rates = ap (rates_checked 0) (sym
@@ -82,8 +86,8 @@ startup-requires c =
     (ap (rates_checked 0) (sym (ap (map node_view) c.nodes.ensures))
     ∙ c.in_default.ensures)
 
-pub returns-in-Err-startup : goal.returns-in-Err-startup
-returns-in-Err-startup c = λ text spells.
+pub returns-in-Err-startup-clause-plan : goal.returns-in-Err-startup-clause-plan
+returns-in-Err-startup-clause-plan c = λ text spells.
     let elaborates = c.in_ok-stream.ensures.verdict in
     let sound = c.in_ok-stream.ensures.sound in
     let rates = ap (rates_checked 0) (sym
@@ -112,8 +116,8 @@ schedule-requires-clause-connected c =
     let sound = c.in_ok-stream.ensures.sound in
     c.in-Ok.ensures.connected sound.closed.typed
 
-pub returns-in-Err-schedule : goal.returns-in-Err-schedule
-returns-in-Err-schedule c = λ text spells.
+pub returns-in-Err-schedule-clause-plan : goal.returns-in-Err-schedule-clause-plan
+returns-in-Err-schedule-clause-plan c = λ text spells.
     let elaborates = c.in_ok-stream.ensures.verdict in
     let sound = c.in_ok-stream.ensures.sound in
     let rates = ap (rates_checked 0) (sym
@@ -146,8 +150,8 @@ transformed-requires c =
     c.in-Ok-schedule.schedule c.in-Ok-schedule.ensures.schedule
     (omega (arith, counts.least.balances.each))
 
-pub returns-in-Err-transformed : goal.returns-in-Err-transformed
-returns-in-Err-transformed c = λ text spells.
+pub returns-in-Err-transformed-clause-plan : goal.returns-in-Err-transformed-clause-plan
+returns-in-Err-transformed-clause-plan c = λ text spells.
     let elaborates = c.in_ok-stream.ensures.verdict in
     let sound = c.in_ok-stream.ensures.sound in
     let rates = ap (rates_checked 0) (sym
@@ -212,8 +216,8 @@ new-requires c =
       transformed = c.in-Ok-transformed.ensures.transformed;
     })
 
-pub returns : goal.returns
-returns c = λ text spells.
+pub returns-clause-plan : goal.returns-clause-plan
+returns-clause-plan c = λ text spells.
     let sound = c.in_ok-stream.ensures.sound in
     let nodes = c.in-Ok.ensures.nodes in
     let checks = ap (rates_checked 0) (sym (ap (map node_view) c.nodes.ensures))
