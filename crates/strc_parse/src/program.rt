@@ -29,7 +29,8 @@ fn program(alloc: Global, tokens: &[Token]) -> Result<Program, ReadError>
 pub fn parse(alloc: Global, tokens: &[Token]) -> Result<Program, ParseError>
     // What is read is a well-shaped program, and these are its tokens.
     ensures ok { IfOk result (λ p. Parses (kinds tokens.now) (program_view p)) }
-    // Each statement is at the place of the tokens that spell it.
+    // Each statement that isn't empty, each rate and each declaration of fields is at the place of
+    // the tokens that spell it.
     ensures placed { IfOk result (IsProgramPlaced tokens.now) }
     // What a refusal says is so.
     ensures refused { IfErr result (λ e. Refuses (kinds tokens.now) e) }
