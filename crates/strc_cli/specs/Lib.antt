@@ -1,6 +1,7 @@
 pub mod Answering
 pub mod Drawing
 pub mod Executes
+pub mod Explaining
 pub mod Input
 pub mod Statuses
 pub use Rattle.strc_output.specs.Output

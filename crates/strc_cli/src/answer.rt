@@ -5,6 +5,7 @@ ghost use Rattle.std.specs.Option.{option_map};
 ghost use Rattle.strc_run.specs.Choices as choices;
 ghost use Rattle.strc_run.specs.Rounds.{plan_reads};
 ghost use Rattle.strc_cli.specs.Answering.{AnswersPlan, IsAnswered, ReadsInput, choice_of};
+ghost use Rattle.strc_cli.specs.Explaining.{IsRefusedAt, IsUnrefused};
 ghost use Rattle.strc_cli.specs.Input as spec;
 ghost use Rattle.strc_cli.specs.Input.{IsInputOf, IsRunAnswer};
 
@@ -18,10 +19,10 @@ use std::alloc::{AllocError, Global};
 use std::sync::Wait;
 use std::thread::Threads;
 use strc_output::stop::Stop;
-use strc_refusal::refused::Refused;
+use strc_refusal::placed::PlacedRefusal;
 use strc_ring::Gate;
 use strc_run::compile::{Plan, compile_or_where};
-use strc_run::laws::plans_answer_texts;
+use strc_run::laws::{accepted_or_refused, plans_answer_texts};
 use strc_run::options::Options;
 use strc_run::refusal::Refusal;
 use strc_run::run::{Outcome, RunRefusal, reads_input, run};
@@ -55,13 +56,17 @@ pub fn answer_to<G: Gate<Stage>, R: Threads + Wait + Sync, I: Source>(
     ensures failed { result ≡ Err CliError.Read → I.has_failed input.new ≡ true }
     ensures steady { result ≢ Err CliError.Read → I.has_failed input.new ≡ I.has_failed input.old }
     ensures unread { (input.new ≡ input.old) ⊎ ReadsInput text.now command.now }
+    // A refusal of the text is at the statement that breaks its rule.
+    ensures located { IsRefusedAt text.now command.now result }
 {
+    // An accepted text isn't refused.
+    accepted_or_refused();
     let Ok(options) = options_of(alloc, command) else {
-        return Ok(Err(Stop::Refused(Refused::from(Refusal::NoMemory))));
+        return Ok(Err(Stop::Refused(PlacedRefusal::from(Refusal::NoMemory))));
     };
     let plan = match compile_or_where(alloc, text, &options) {
         Ok(plan) => plan,
-        Err(placed) => return Ok(Err(Stop::Refused(placed.refused))),
+        Err(placed) => return Ok(Err(Stop::Refused(placed))),
     };
     match command {
         Command::Run {
@@ -106,6 +111,7 @@ fn run_plan<G: Gate<Stage>, R: Threads + Wait + Sync, I: Source>(
     ensures steady { result ≢ Err CliError.Read → I.has_failed input.new ≡ I.has_failed input.old }
     ensures unread { (input.new ≡ input.old)
         ⊎ (plan_reads plan ≡ true) }
+    ensures unrefused { IsUnrefused result }
 {
     // The answer for the plan is the answer for its text.
     plans_answer_texts();

@@ -10,7 +10,7 @@ use std::alloc::{AllocError, Global};
 use strc_output::parts::{round_shares, startup_shares};
 use strc_output::picture::{picture, plan_picture};
 use strc_output::stop::Stop;
-use strc_refusal::refused::Refused;
+use strc_refusal::placed::PlacedRefusal;
 use strc_run::compile::{Plan, stream_of};
 use strc_run::options::Options;
 use strc_run::refusal::Refusal;
@@ -28,7 +28,7 @@ pub(crate) fn drawn(
 {
     let stream = match stream_of(alloc, text, options) {
         Ok(stream) => stream,
-        Err(refusal) => return Err(Stop::Refused(Refused::from(refusal))),
+        Err(refusal) => return Err(Stop::Refused(PlacedRefusal::from(refusal))),
     };
     match picture(
         alloc,
@@ -39,7 +39,7 @@ pub(crate) fn drawn(
         plan.sizes(),
     ) {
         Ok(picture) => Ok(Answer::Drawn(picture)),
-        Err(_) => Err(Stop::Refused(Refused::from(Refusal::NoMemory))),
+        Err(_) => Err(Stop::Refused(PlacedRefusal::from(Refusal::NoMemory))),
     }
 }
 
@@ -53,7 +53,7 @@ pub(crate) fn stages_drawn(alloc: Global, plan: &Plan, workers: u32) -> Result<A
     }
     match stages_picture(alloc, plan, workers) {
         Ok(picture) => Ok(Answer::Drawn(picture)),
-        Err(_) => Err(Stop::Refused(Refused::from(Refusal::NoMemory))),
+        Err(_) => Err(Stop::Refused(PlacedRefusal::from(Refusal::NoMemory))),
     }
 }
 

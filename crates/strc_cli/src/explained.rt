@@ -1,8 +1,10 @@
 // What a person reads beside the output: why a text is refused, and where a firing faulted.
 
-ghost use Rattle.std.specs.Prelude.{◌≡◌, ◌≢◌, ◌⊎◌, true, Err};
+ghost use Rattle.std.specs.Prelude.{◌≡◌, ◌≢◌, ◌⊎◌, true, Err, IfOk};
+ghost use Rattle.std.specs.Option.{option_map};
 ghost use Rattle.strc_cli.specs.Answering.{ReadsInput};
 ghost use Rattle.strc_cli.specs.Executes.{Executes, device_of};
+ghost use Rattle.strc_cli.specs.Explaining.{ExecutesExplained, MayTellOf, TellsOf};
 
 use crate::answer::{Answer, answer_to, main_name};
 use crate::device::{Sink, Source};
@@ -48,6 +50,11 @@ pub fn execute_explained<G: Gate<Stage>, R: Threads + Wait + Sync, I: Source, O:
     ensures steady { result.result ≢ Err CliError.Read
         → I.has_failed input.new ≡ I.has_failed input.old }
     ensures unread { (input.new ≡ input.old) ⊎ ReadsInput text.now command.now }
+    // The message of a refused text is about the statement that breaks its rule, or a name in it.
+    ensures explained { ExecutesExplained file.now text.now command.now (I.remaining input.old)
+        result.result result.message.items
+        (device_of (O.contents output.old) (O.has_failed output.old))
+        (device_of (O.contents output.new) (O.has_failed output.new)) }
 {
     match answer_to(rt, alloc, text, command, input, gate) {
         Ok(answered) => Explained {
@@ -78,7 +85,10 @@ fn message_of(
     text: &[u8],
     main: Option<&str>,
     answered: &Result<Answer, Stop>,
-) -> Vec<u8> {
+) -> Vec<u8>
+    ensures { MayTellOf file.now text.now (option_map (λ m. m.now) main.entry) answered.now
+        result.items }
+{
     match explanation(alloc, file, text, main, answered) {
         Ok(message) => message,
         Err(NoMemory) => Vec::new(alloc),
@@ -91,9 +101,12 @@ fn explanation(
     text: &[u8],
     main: Option<&str>,
     answered: &Result<Answer, Stop>,
-) -> Result<Vec<u8>, NoMemory> {
+) -> Result<Vec<u8>, NoMemory>
+    ensures { IfOk result (λ message. TellsOf file.now text.now
+        (option_map (λ m. m.now) main.entry) answered.now message.items) }
+{
     match answered {
-        Err(Stop::Refused(refused)) => refusal_message(alloc, file, text, main, refused),
+        Err(Stop::Refused(placed)) => refusal_message(alloc, file, text, main, placed),
         Err(Stop::BadInput { word }) => bad_input_message(alloc, *word),
         Err(Stop::NotRun(refusal)) => not_run_message(alloc, file, *refusal),
         Ok(

@@ -5,6 +5,7 @@ ghost use Rattle.strc_places.specs.Nodes.{MarksName};
 ghost use Rattle.strc_places.specs.Refused as spec;
 ghost use Rattle.strc_places.specs.Refused.{MarksFaultOf};
 ghost use Rattle.strc_source.specs.Messages.{IsMessage};
+ghost use Rattle.strc_messages.specs.Told as told;
 
 use crate::refusal::tokens_of;
 use std::alloc::Global;
@@ -49,9 +50,12 @@ pub fn fault_message<'a>(
     graph: &Graph,
     fault: FaultSite,
 ) -> Result<Vec<u8>, NoMemory>
-    ensures { IfOk result (λ message. IsMessage file.now text.now message.items) }
+    ensures message { IfOk result (λ message. IsMessage file.now text.now message.items) }
+    // It is about the part of the body that faults, where only one can, or about its filter.
+    ensures told { IfOk result (λ message. told.TellsFaultOfText file.now text.now fault.cause
+        (spec.body_fired fault.firing) (slice_get graph.now.nodes fault.node) message.items) }
 {
-    let tokens = tokens_of(alloc, text);
+    let tokens = tokens_of(alloc, text)?;
     let source = Source {
         file,
         text,
@@ -67,8 +71,9 @@ fn write_fault(
     graph: &Graph,
     fault: FaultSite,
 ) -> Result<Vec<u8>, NoMemory>
-    ensures { IfOk result (λ message.
-        IsMessage source.entry.file.now source.entry.text.now message.items) }
+    ensures { IfOk result (λ message. told.TellsFault source.entry.file.now
+        source.entry.text.now source.entry.tokens.now fault.cause (spec.body_fired fault.firing)
+        (slice_get graph.now.nodes fault.node) message.items) }
 {
     let place = place_of_fault(alloc, source, graph, fault)?;
     let mut message = Message::new(alloc);

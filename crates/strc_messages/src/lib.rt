@@ -1,8 +1,8 @@
 // Takes a program's text, the name of its file, and why it is refused or where a firing faulted.
 // Gives what a person reads of it: the place in the file, one sentence, the source line with a
 // mark, and where it helps a hint.
-// The theorems to rely on: `refusal_message`, `fault_message`: a message begins with its file, and
-// with a place of the text where it is about one.
+// The theorems to rely on: `refusal_message`, `fault_message`: a message begins with its file and
+// the place of the part that it is about: of a refusal its statement, or a name within that.
 // Stands on strc_places, which finds the place, on strc_source, which builds messages and tells of
 // the nodes of a stream, on strc_refusal, whose refusals and rounds it tells of, on
 // strc_statements, which says what can be the main stream, and on strc_check, whose rules are
@@ -16,4 +16,5 @@ mod mismatches;
 mod pairs;
 pub mod refusal;
 mod sentences;
+mod site;
 mod syntax;

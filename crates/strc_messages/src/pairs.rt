@@ -1,8 +1,10 @@
 // What a person reads where two parts of a program don't go together: the second one is marked,
 // and the sentence says where the first one is.
 
-ghost use Rattle.std.specs.Prelude.{IfOk, IfSome};
-ghost use Rattle.strc_source.specs.Messages.{IsMessage};
+ghost use Rattle.std.specs.Prelude.{◌≡◌, ◌<◌, IfOk, IfSome, find, length, position};
+ghost use Rattle.std.specs.Option.{option_map};
+ghost use Rattle.strc_places.specs.Parts.{declarations_of};
+ghost use Rattle.strc_messages.specs.Told as told;
 
 use std::alloc::Global;
 use strc_base::memory::NoMemory;
@@ -12,22 +14,30 @@ use strc_places::known::Known;
 use strc_places::origins::statement_of;
 use strc_places::pairs::pair_of;
 use strc_refusal::refusal::Refusal;
-use strc_refusal::refused::Refused;
 use strc_source::message::Message;
 use strc_source::place::place_of;
+use strc_source::preorder::Preorder;
 use strc_source::source::Source;
 use strc_statements::main_stream::can_be_main;
+use strc_syntax::tree::Decl;
 
 /// The message, where the two parts are known.
-pub(crate) fn pair_message(known: Known<'_>, refused: &Refused) -> Result<Option<Vec<u8>>, NoMemory>
-    ensures { IfOk result (λ found. IfSome found (λ message.
-        IsMessage known.entry.source.file.now known.entry.source.text.now message.items)) }
+#[tactic(auto, using(crate::proofs::Telling::told_again))]
+pub(crate) fn pair_message(
+    known: Known<'_>,
+    refusal: &Refusal,
+    site: Site,
+) -> Result<Option<Vec<u8>>, NoMemory>
+    ensures { IfOk result (told.TellsTwo known.entry.source.file.now known.entry.source.text.now
+        known.entry.source.tokens.now (option_map (λ m. m.now) known.entry.source.main)
+        (option_map (λ p. p.now) known.entry.program) (option_map (λ n. n.now) known.entry.nodes)
+        (option_map (λ g. g.now) known.entry.graph) site refusal.now) }
 {
-    match refused.refusal() {
+    match refusal {
         Refusal::ManyMains => two_mains(known),
-        Refusal::TypeMismatch { .. } => two_of_a_name(known, refused.site()),
+        Refusal::TypeMismatch { .. } => two_of_a_name(known, site),
         Refusal::TwoInputs | Refusal::TapeTwice { .. } | Refusal::Disconnected => {
-            two_nodes(known, refused.refusal())
+            two_nodes(known, refusal)
         }
         _ => Ok(None),
     }
@@ -35,12 +45,12 @@ pub(crate) fn pair_message(known: Known<'_>, refused: &Refused) -> Result<Option
 
 /// Two declarations that could be the main stream.
 fn two_mains(known: Known<'_>) -> Result<Option<Vec<u8>>, NoMemory>
-    ensures { IfOk result (λ found. IfSome found (λ message.
-        IsMessage known.entry.source.file.now known.entry.source.text.now message.items)) }
+    ensures { IfOk result (told.TellsMains known.entry.source.file.now
+        known.entry.source.text.now known.entry.source.tokens.now
+        (told.second_main (declarations_of (option_map (λ p. p.now) known.entry.program)))) }
 {
     let source = known.source;
-    let mut mains = known.declarations().iter().filter(|it| can_be_main(it));
-    let (Some(first), Some(second)) = (mains.next(), mains.next()) else {
+    let Some((first, second)) = mains_of(known.declarations()) else {
         return Ok(None);
     };
     let place = known.place_of_name(second);
@@ -55,10 +65,34 @@ fn two_mains(known: Known<'_>) -> Result<Option<Vec<u8>>, NoMemory>
     Ok(Some(source.message(known.alloc, place, message)?))
 }
 
+/// The first two declarations that could be the main stream.
+fn mains_of(declarations: &[Decl]) -> Option<(&Decl, &Decl)>
+    ensures { option_map (λ mains. mains.1.now) result ≡ told.second_main declarations.now }
+{
+    let first = first_main(declarations)?;
+    let second = main_in(&declarations[first + 1..])?;
+    Some((&declarations[first], second))
+}
+
+/// The first of these declarations that could be the main stream.
+fn main_in(declarations: &[Decl]) -> Option<&Decl>
+    ensures { option_map (λ main. main.now) result ≡ find told.could_be_main declarations.now }
+{
+    declarations.iter().find(|it| can_be_main(it))
+}
+
+/// The first declaration that could be the main stream, by its number.
+fn first_main(declarations: &[Decl]) -> Option<usize>
+    ensures found { result ≡ position told.could_be_main declarations.now }
+    ensures within { IfSome result (λ first. first < length declarations.now) }
+{
+    declarations.iter().position(|it| can_be_main(it))
+}
+
 /// A declaration, and an earlier one of its name.
 fn two_of_a_name(known: Known<'_>, site: Site) -> Result<Option<Vec<u8>>, NoMemory>
-    ensures { IfOk result (λ found. IfSome found (λ message.
-        IsMessage known.entry.source.file.now known.entry.source.text.now message.items)) }
+    ensures { IfOk result (λ found. IfSome found (λ message. told.TellsAgain
+        known.entry.source.file.now known.entry.source.text.now site message.items)) }
 {
     let (Some(Mismatch::StreamTwice(first)), Some(second)) = (site.mismatch, site.place) else {
         return Ok(None);
@@ -74,14 +108,17 @@ fn two_of_a_name(known: Known<'_>, site: Site) -> Result<Option<Vec<u8>>, NoMemo
 
 /// Two nodes.
 fn two_nodes(known: Known<'_>, refusal: &Refusal) -> Result<Option<Vec<u8>>, NoMemory>
-    ensures { IfOk result (λ found. IfSome found (λ message.
-        IsMessage known.entry.source.file.now known.entry.source.text.now message.items)) }
+    ensures { IfOk result (told.TellsNodes known.entry.source.file.now
+        known.entry.source.text.now known.entry.source.tokens.now
+        (option_map (λ m. m.now) known.entry.source.main)
+        (option_map (λ p. p.now) known.entry.program) (option_map (λ n. n.now) known.entry.nodes)
+        refusal.now) }
 {
     let (alloc, source) = (known.alloc, known.source);
     let Some(order) = known.nodes else {
         return Ok(None);
     };
-    let Some((first, second)) = pair_of(alloc, order, refusal)? else {
+    let Some((first, second)) = pair_in(alloc, order, refusal)? else {
         return Ok(None);
     };
     let place = statement_of(known, second);
@@ -94,6 +131,18 @@ fn two_nodes(known: Known<'_>, refusal: &Refusal) -> Result<Option<Vec<u8>>, NoM
     message.hint()?;
     message.add(pair_hint(refusal))?;
     Ok(Some(source.message(alloc, place, message)?))
+}
+
+/// The first two nodes that don't go together.
+#[tactic(auto, using(crate::proofs::Telling::pair_is))]
+fn pair_in(
+    alloc: Global,
+    order: &Preorder,
+    refusal: &Refusal,
+) -> Result<Option<(usize, usize)>, NoMemory>
+    ensures { IfOk result (told.IsPair refusal.now order.now) }
+{
+    pair_of(alloc, order, refusal)
 }
 
 fn joining_words(refusal: &Refusal) -> &'static [u8] {

@@ -1,22 +1,28 @@
 // What a person reads of a refusal.
 
 ghost use Rattle.std.specs.Prelude.{IfOk};
+ghost use Rattle.std.specs.Option.{option_map};
 ghost use Rattle.strc_source.specs.Messages.{IsMessage};
+ghost use Rattle.strc_messages.specs.Told as told;
 
 use crate::hints::push_hint;
 use crate::mismatches::push_mismatch;
 use crate::pairs::pair_message;
 use crate::sentences::plain_sentence;
+use crate::site::site_of;
 use crate::syntax::push_syntax;
 use std::alloc::Global;
 use strc_base::memory::NoMemory;
 use strc_base::place::Span;
+use strc_check::site::Site;
+use strc_lex::error::LexError;
 use strc_lex::lexer::lex;
 use strc_lex::token::Token;
 use strc_parse::parse;
 use strc_places::known::Known;
 use strc_places::moved::{Moved, moved_of, rate_keyword};
 use strc_places::places::{code_of, place_of_refusal};
+use strc_refusal::placed::PlacedRefusal;
 use strc_refusal::refusal::Refusal;
 use strc_refusal::refused::Refused;
 use strc_source::counts::large_channel;
@@ -35,13 +41,17 @@ pub fn refusal_message<'a>(
     file: &'a str,
     text: &'a [u8],
     main: Option<&'a str>,
-    refused: &'a Refused,
+    placed: &'a PlacedRefusal,
 ) -> Result<Vec<u8>, NoMemory>
-    ensures { IfOk result (λ message. IsMessage file.now text.now message.items) }
+    ensures message { IfOk result (λ message. IsMessage file.now text.now message.items) }
+    // It is about the statement that breaks the rule, or a name within it.
+    ensures told { IfOk result (λ message. told.TellsOfText file.now text.now
+        (option_map (λ m. m.now) main.entry) placed.now.refused placed.now.statement
+        message.items) }
 {
-    let tokens = tokens_of(alloc, text);
+    let tokens = tokens_of(alloc, text)?;
     let program = parse(alloc, &tokens).ok();
-    let nodes = nodes_of(alloc, refused)?;
+    let nodes = nodes_of(alloc, &placed.refused)?;
     let source = Source {
         file,
         text,
@@ -53,16 +63,19 @@ pub fn refusal_message<'a>(
         source,
         program: program.as_ref(),
         nodes: nodes.as_ref(),
-        graph: refused.graph(),
+        graph: placed.refused.graph(),
     };
-    write_message(known, refused)
+    write_message(known, placed)
 }
 
 /// The text's tokens; none where it has none.
-pub(crate) fn tokens_of(alloc: Global, text: &[u8]) -> Vec<Token> {
+pub(crate) fn tokens_of(alloc: Global, text: &[u8]) -> Result<Vec<Token>, NoMemory>
+    ensures { IfOk result (λ tokens. told.IsTokensOf text.now tokens.items) }
+{
     match lex(alloc, text) {
-        Ok(tokens) => tokens,
-        Err(_) => Vec::new(alloc),
+        Ok(tokens) => Ok(tokens),
+        Err(LexError::NoMemory) => Err(NoMemory),
+        Err(LexError::Lex { .. } | LexError::TextTooLong) => Ok(Vec::new(alloc)),
     }
 }
 
@@ -74,14 +87,29 @@ fn nodes_of(alloc: Global, refused: &Refused) -> Result<Option<Preorder>, NoMemo
     }
 }
 
-fn write_message(known: Known<'_>, refused: &Refused) -> Result<Vec<u8>, NoMemory>
-    ensures { IfOk result (λ message.
-        IsMessage known.entry.source.file.now known.entry.source.text.now message.items) }
+fn write_message(known: Known<'_>, placed: &PlacedRefusal) -> Result<Vec<u8>, NoMemory>
+    ensures { IfOk result (λ message. told.TellsRefusal known.entry.source.file.now
+        known.entry.source.text.now known.entry.source.tokens.now
+        (option_map (λ m. m.now) known.entry.source.main) placed.now.refused placed.now.statement
+        message.items) }
 {
-    if let Some(message) = pair_message(known, refused)? {
+    let site = site_of(known, placed);
+    write_at(known, &placed.refused, site)
+}
+
+/// The message of a refusal whose rule is broken at this site.
+#[tactic(auto, using(crate::proofs::Telling::two_told, crate::proofs::Telling::told_alone))]
+fn write_at(known: Known<'_>, refused: &Refused, site: Site) -> Result<Vec<u8>, NoMemory>
+    ensures { IfOk result (λ message. told.TellsSite known.entry.source.file.now
+        known.entry.source.text.now known.entry.source.tokens.now
+        (option_map (λ m. m.now) known.entry.source.main)
+        (option_map (λ p. p.now) known.entry.program) (option_map (λ n. n.now) known.entry.nodes)
+        (option_map (λ g. g.now) known.entry.graph) site refused.now message.items) }
+{
+    if let Some(message) = pair_message(known, refused.refusal(), site)? {
         return Ok(message);
     }
-    let place = place_of_refusal(known, refused.refusal(), refused.site())?;
+    let place = place_of_refusal(known, refused.refusal(), site)?;
     let mut message = Message::new(known.alloc);
     push_sentence(&mut message, known, refused, place)?;
     known.source.excerpt(&mut message, place)?;

@@ -1,13 +1,13 @@
 // Why a command has no answer.
 
-use strc_refusal::refused::Refused;
+use strc_refusal::placed::PlacedRefusal;
 use strc_refusal::run_refusal::RunRefusal;
 
 /// Why there is no answer.
 #[derive(Drop)]
 pub enum Stop {
     /// The text is refused.
-    Refused(Refused),
+    Refused(PlacedRefusal),
     /// The text is accepted, and a word of its input writes no number; its number, from 0.
     BadInput { word: u64 },
     /// The text is accepted, and isn't run.

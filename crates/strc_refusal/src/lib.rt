@@ -8,6 +8,7 @@
 #![tactic(auto)]
 
 pub mod outcome;
+pub mod placed;
 pub mod refusal;
 pub mod refused;
 pub mod run_refusal;

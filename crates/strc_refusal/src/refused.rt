@@ -8,7 +8,6 @@ ghost use Rattle.strc_refusal.specs.declared.refusal.Refusal.TheVariants.{NoMemo
 use crate::refusal::Refusal;
 use std::marker::Model;
 use strc_base::memory;
-use strc_base::place::Span;
 use strc_check::site::Site;
 use strc_graph::graph::Graph;
 use strc_statements::error::ElabError;
@@ -54,13 +53,6 @@ impl Refused {
             stream: None,
             graph: None,
         }
-    }
-
-    /// The refusal, at this place.
-    pub fn at_place(refusal: Refusal, place: Span) -> Refused
-        ensures { result ≡ refusal }
-    {
-        Refused::at(refusal, Site::unknown().or_at(Some(place)))
     }
 
     /// The refusal, of a program whose main stream is known.
@@ -113,7 +105,7 @@ impl Refused {
         refusal
     }
 
-    /// Where it is broken, as far as that is known.
+    /// Which rule on types, kinds and parts is broken, and at which name, where that is known.
     pub fn site(&self) -> Site {
         self.site
     }

@@ -1,12 +1,11 @@
 -- The statement of a refusal.
-use Rattle.std.proofs.Common.{◌≡◌, Option, None, Result, Ok, Err, refl}
+use Rattle.std.proofs.Common.{◌≡◌, Option, None, Result, Ok, Err}
 use Rattle.strc_base.specs.declared.place.Span.{Span}
 use Rattle.strc_statements.specs.Answers.{IsRefusal}
 use Rattle.strc_statements.specs.declared.error.ElabError.{ElabError}
 use Rattle.strc_statements.specs.declared.error.ElabErrorKind.TheVariants as error
 use Rattle.strc_elab.specs.Answering.{IsPlaceOf}
 use Rattle.strc_stream.specs.Instances.{Stream}
-use Rattle.strc_stage.specs.Plans.{PlanParts}
 use Rattle.strc_refusal.specs.Reports.{refusal_of}
 use Rattle.strc_refusal.specs.declared.refusal.Refusal.{Refusal}
 use Rattle.strc_refusal.specs.declared.refusal.Refusal.TheVariants as refusal

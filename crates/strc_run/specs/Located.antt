@@ -19,7 +19,7 @@ use Rattle.strc_refusal.specs.Reports.{refusal_of}
 use Rattle.strc_stage.specs.Plans.{PlanParts}
 use Rattle.strc_refusal.specs.declared.refusal.Refusal.{Refusal}
 use Rattle.strc_refusal.specs.declared.refusal.Refusal.TheVariants as refusal
-use Rattle.strc_run.specs.declared.placed.PlacedRefusal.{PlacedRefusal}
+use Rattle.strc_refusal.specs.declared.placed.PlacedRefusal.{PlacedRefusal}
 use Rattle.strc_run.specs.Choices.{Choice}
 use Rattle.strc_run.specs.Plans.{HasPlan}
 use Rattle.strc_run.specs.Refuses.{IsReadRefusal}

@@ -16,7 +16,6 @@ ghost use Rattle.strc_run.specs.Refuses.{HasNoBalance, IsReadRefusal};
 ghost use Rattle.strc_refusal.specs.declared.refusal.Refusal.TheVariants as refused;
 
 use crate::options::Options;
-use crate::placed::PlacedRefusal;
 use crate::rates::check_rates;
 use crate::refusal::Refusal;
 use crate::transforming::transformed;
@@ -28,8 +27,8 @@ use strc_flatten::flatten::flatten;
 use strc_fuse::laws::schedules_can_be_fused;
 use strc_lex::error::LexError;
 use strc_lex::lexer::lex;
-use strc_lex::token::Token;
 use strc_parse::{ParseError, parse};
+use strc_refusal::placed::PlacedRefusal;
 use strc_refusal::refused::Refused;
 use strc_schedule::planning::schedule;
 pub use strc_stage::plan::Plan;
@@ -83,7 +82,7 @@ pub fn compile_or_where(
             Ok(plan) => Ok(plan),
             Err(refused) => Err(PlacedRefusal { refused, statement }),
         },
-        Err(refused) => Err(PlacedRefusal { refused, statement }),
+        Err(refusal) => Err(PlacedRefusal::from(refusal)),
     }
 }
 
@@ -93,10 +92,7 @@ pub fn compile_or_where(
 pub fn stream_of(alloc: Global, text: &[u8], options: &Options) -> Result<Stream, Refusal>
     ensures { HasStream text.now (choice_of options.now) result }
 {
-    let program = match read_program(alloc, text) {
-        Ok(program) => program,
-        Err(refused) => return Err(refused.into_refusal()),
-    };
+    let program = read_program(alloc, text)?;
     match elaborate(alloc, &program, options.main_name()) {
         Ok(stream) => Ok(stream),
         Err(error) => Err(Refusal::from(error)),
@@ -172,52 +168,27 @@ fn main_stream(
         Ok(stream) => Ok(stream),
         Err(placed) => {
             *statement = placed.place;
-            Err(Refused::from(placed.error.or_at(placed.place)))
+            Err(Refused::from(placed.error))
         }
     }
 }
 
 // The program that the text spells.
-fn read_program(alloc: Global, text: &[u8]) -> Result<Program, Refused>
+fn read_program(alloc: Global, text: &[u8]) -> Result<Program, Refusal>
     ensures read { IfOk result (λ program. Spells text.now (program_view program)) }
     ensures placed { IfOk result (IsRead text.now) }
     ensures refused { IfErr result (λ e. IsReadRefusal text.now e) }
 {
     let tokens = match lex(alloc, text) {
         Ok(tokens) => tokens,
-        Err(LexError::Lex { at }) => {
-            return Err(Refused::at_place(Refusal::Lex { at }, byte_at(at)));
-        }
-        Err(LexError::TextTooLong) => return Err(Refused::from(Refusal::TextTooLong)),
-        Err(LexError::NoMemory) => return Err(Refused::from(Refusal::NoMemory)),
+        Err(LexError::Lex { at }) => return Err(Refusal::Lex { at }),
+        Err(LexError::TextTooLong) => return Err(Refusal::TextTooLong),
+        Err(LexError::NoMemory) => return Err(Refusal::NoMemory),
     };
     match parse(alloc, &tokens) {
         Ok(program) => Ok(program),
-        Err(ParseError::Parse { token }) => {
-            let place = token_at(&tokens, token);
-            Err(Refused::at_place(Refusal::Parse { token }, place))
-        }
-        Err(ParseError::Nesting) => Err(Refused::from(Refusal::Nesting)),
-        Err(ParseError::NoMemory) => Err(Refused::from(Refusal::NoMemory)),
-    }
-}
-
-// The place of a byte.
-fn byte_at(at: usize) -> Span {
-    Span {
-        start: at,
-        end: at.saturating_add(1),
-    }
-}
-
-// The place of a token; the byte after the last one where the tokens end before it.
-fn token_at(tokens: &[Token], token: usize) -> Span {
-    match (tokens.get(token), tokens.last()) {
-        (Some(found), _) => Span {
-            start: found.span.start,
-            end: found.span.end,
-        },
-        (None, Some(last)) => byte_at(last.span.end),
-        (None, None) => byte_at(0),
+        Err(ParseError::Parse { token }) => Err(Refusal::Parse { token }),
+        Err(ParseError::Nesting) => Err(Refusal::Nesting),
+        Err(ParseError::NoMemory) => Err(Refusal::NoMemory),
     }
 }

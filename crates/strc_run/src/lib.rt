@@ -12,7 +12,6 @@
 pub mod compile;
 pub mod laws;
 pub mod options;
-pub mod placed;
 mod rates;
 pub mod run;
 mod transforming;

@@ -3,7 +3,7 @@
 
 ghost use Rattle.std.specs.Prelude.{◌≡◌, ◌++◌, [], codes, decimal, IfOk, OnOk};
 ghost use Rattle.std.specs.Option.{option_map};
-ghost use Rattle.strc_source.specs.Messages.{IsHead, IsMessage};
+ghost use Rattle.strc_source.specs.Messages.{IsHead, IsMessageOf};
 
 use crate::place::{line_before, line_from, place_of};
 use itoa::Buffer;
@@ -70,7 +70,7 @@ impl Message {
         text: &[u8],
         place: Option<Span>,
     ) -> Result<Vec<u8>, AllocError>
-        ensures { IfOk result (λ message. IsMessage file.now text.now message.items) }
+        ensures { IfOk result (λ message. IsMessageOf file.now text.now place message.items) }
     {
         let mut message = Message::head(alloc, file, text, place)?;
         message.add(&self.bytes)?;

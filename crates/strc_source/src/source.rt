@@ -3,7 +3,7 @@
 ghost use Rattle.std.specs.Prelude.{◌≡◌, ◌-◌, ◌<◌, take, drop, IfOk, true};
 ghost use Rattle.strc_source.specs.Headings as spec;
 ghost use Rattle.strc_source.specs.Headings.{heading, end_from};
-ghost use Rattle.strc_source.specs.Messages.{IsMessage};
+ghost use Rattle.strc_source.specs.Messages.{IsMessageOf};
 ghost use Rattle.strc_source.specs.Tokens.{tokens_in};
 
 use crate::message::Message;
@@ -33,7 +33,7 @@ impl<'a> Source<'a> {
         message: Message,
     ) -> Result<Vec<u8>, NoMemory>
         ensures { IfOk result (λ message.
-            IsMessage self.entry.file.now self.entry.text.now message.items) }
+            IsMessageOf self.entry.file.now self.entry.text.now place message.items) }
     {
         Ok(message.end(alloc, self.file, self.text, place)?)
     }

@@ -1,10 +1,13 @@
 use Rattle.std.proofs.Common.{false, length, ap, subst, sym, inl, inr}
+use Rattle.strc_run.specs.Located.{IsLocated}
 use Rattle.strc_run.specs.Plans.{IsPlanOf}
 use Rattle.strc_cli.specs.Answering.{choice_of, HasSize, IsAsked, IsAnswered, ReadsInput}
 use Rattle.strc_run.specs.Choices.{Choice}
+use Rattle.strc_cli.specs.Drawing.{IsDrawn}
 use Rattle.strc_cli.specs.declared.answer.Answer.TheVariants as answer
 use Rattle.strc_cli.specs.declared.line.Command.{Command}
 use Rattle.strc_cli.proofs.PlanAnswers.{plan_size, reads_text, same_choice}
+use Rattle.strc_cli.proofs.Refusing.{drawn_unrefused}
 use Rattle.strc_cli.proofs.answer.answer_to.Goals as goal
 
 pub returns-in-Check-clause-answered : goal.returns-in-Check-clause-answered
@@ -62,3 +65,23 @@ returns-in-Run-clause-unread g c =
           is) c.in-Run.rounds c.in-Run.workers false
           (g.I.Source.remaining c.args.input.now) reads))
     ]
+
+pub returns-in-Err-clause-located : goal.returns-in-Err-clause-located
+returns-in-Err-clause-located g c =
+    let placed = c.in-Err.placed in
+    subst
+    (λ (choice : Choice). IsLocated c.args.text.now choice placed.refused placed.statement)
+    (same_choice _ _ c.in-Ok.ensures.main c.in-Ok.ensures.ways c.in-Ok.ensures.fuse)
+    c.in-Err.ensures.located
+
+pub returns-in-Graph-None-None-None-default-clause-located :
+    goal.returns-in-Graph-None-None-None-default-clause-located
+returns-in-Graph-None-None-None-default-clause-located g c =
+    let text = c.args.text.now in
+    let plan = c.in-Ok-compile_or_where.plan in
+    let same = same_choice _ _ c.in-Ok.ensures.main c.in-Ok.ensures.ways c.in-Ok.ensures.fuse in
+    drawn_unrefused text c.args.command.now c.accepted_or_refused.ensures plan
+    (subst (λ (choice : Choice). IsPlanOf text choice plan) same
+    c.in-Ok-compile_or_where.ensures.plan)
+    c.drawn.result
+    (subst (λ (choice : Choice). IsDrawn text choice plan c.drawn.result) same c.drawn.ensures)

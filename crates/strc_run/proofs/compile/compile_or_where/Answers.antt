@@ -1,4 +1,4 @@
-use Rattle.std.proofs.Common.{ℕ, List, Option, Ok, Err, subst}
+use Rattle.std.proofs.Common.{ℕ, List, Option, Err, subst}
 use Rattle.strc_stage.specs.Plans.{PlanParts}
 use Rattle.strc_run.specs.Located.{IsAtStatement, IsLocated}
 use Rattle.strc_run.specs.Plans.{IsPlanOf}

@@ -15,6 +15,6 @@ returns c =
     (sym c.from.ensures)
     (subst (λ (main : Option (List ℕ)).
     IsTrueOf text (record { main = main; ways = ways; fuse = fuse })
-    (refusal_of c.in-Err-elaborate.error)) c.main_name.ensures
+    (refusal_of c.in-Err.error)) c.main_name.ensures
     (elaboration_refused text (record { main = _; ways = ways; fuse = fuse }) _
-    c.in-Ok.ensures.read c.in-Err-elaborate.error c.in-Err-elaborate.ensures.verdict))
+    c.in_ok-program.ensures.read c.in-Err.error c.in-Err.ensures.verdict))

@@ -1,0 +1,50 @@
+-- What a person reads of an answer, and where a text is refused.
+use Rattle.std.specs.Prelude.{◌≡◌, ◌⊎◌, ⊤, ℕ, List, [], Option, Result, Ok, Err}
+use Rattle.strc_run.specs.Located.{IsLocated}
+use Rattle.strc_messages.specs.Told.{TellsOfText}
+use Rattle.strc_output.specs.declared.stop.Stop.{Stop}
+use Rattle.strc_output.specs.declared.stop.Stop.TheVariants as stop
+use Rattle.strc_cli.specs.declared.answer.Answer.{Answer}
+use Rattle.strc_cli.specs.declared.execute.CliError.{CliError}
+use Rattle.strc_cli.specs.declared.execute.Status.{Status}
+use Rattle.strc_cli.specs.declared.line.Command.{Command}
+use Rattle.strc_cli.specs.Answering.{IsAnswered, choice_of}
+use Rattle.strc_cli.specs.Executes.{Device, IsReported}
+
+-- a text that is refused is so at the statement that breaks its rule
+abbrev pub IsRefusedAt : List ℕ → Command → Result (Result Answer Stop) CliError → Type 0
+IsRefusedAt text command (Ok (Err (stop.Refused placed))) =
+    IsLocated text (choice_of command) placed.refused placed.statement
+IsRefusedAt text command _ = ⊤
+
+-- a text isn't refused
+abbrev pub IsUnrefused : Result (Result Answer Stop) CliError → Type 0
+IsUnrefused (Ok (Err (stop.Refused placed))) = ⊥
+IsUnrefused _ = ⊤
+
+-- a message about a refusal of the text; of a run and of its input it isn't said here
+abbrev pub TellsOf : (file text : List ℕ) → (asked : Option (List ℕ)) → Result Answer Stop
+    → (message : List ℕ) → Type 0
+TellsOf file text asked (Err (stop.Refused placed)) message =
+    TellsOfText file text asked placed.refused placed.statement message
+TellsOf file text asked _ message = ⊤
+
+-- there is such a message, or none where memory runs out
+abbrev pub MayTellOf : (file text : List ℕ) → (asked : Option (List ℕ)) → Result Answer Stop
+    → (message : List ℕ) → Type 0
+MayTellOf file text asked answered message =
+    (message ≡ []) ⊎ TellsOf file text asked answered message
+
+-- an answer is explained
+abbrev pub Explains : (file text : List ℕ) → Command → Result (Result Answer Stop) CliError
+    → (message : List ℕ) → Type 0
+Explains file text command (Ok answered) message = IsRefusedAt text command (Ok answered)
+    × MayTellOf file text (choice_of command).main answered message
+Explains file text command (Err failure) message = message ≡ []
+
+-- what is reported is the answer for this text, command and input, and the message explains it
+abbrev pub ExecutesExplained : (file text : List ℕ) → Command → (bytes : Option (List ℕ))
+    → Result Status CliError → (message : List ℕ) → Device → Device → Type 0
+ExecutesExplained file text command bytes result message before after =
+    (answer : Result (Result Answer Stop) CliError) × IsAnswered text command bytes answer
+    × IsReported answer result before after × Explains file text command answer message
