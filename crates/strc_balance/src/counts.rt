@@ -51,12 +51,4 @@ impl Counts {
     {
         self.counts[node]
     }
-
-    /// The counts, taken out.
-    pub fn into_vec(self) -> Vec<u32>
-        ensures { result.items ≡ self }
-    {
-        let Counts { counts } = self;
-        counts
-    }
 }

@@ -1,6 +1,6 @@
 -- One list of a parcel is another one.
 use Rattle.std.proofs.Common.{◌≡◌, ◌<◌, ℕ, ℤ, Bool, List, [], map, length, set, get_or, ap, ◌∙◌}
-use Rattle.std.proofs.Common.{Option, arith, Result, Ok, Err, MatchResult, ◌++◌, ◌∷◌, ◌+◌, take}
+use Rattle.std.proofs.Common.{Option, arith, ◌++◌, ◌∷◌, ◌+◌, take}
 use Rattle.std.proofs.Common.{replicate, add-one, sym, subst, ◌-◌}
 use Rattle.std.proofs.lemmas.List.{map-set, get_or-map, length-map, map-append, replicate_more}
 use Rattle.std.proofs.Math.Seq.{map-set_same, take-suc-set}
@@ -9,7 +9,7 @@ use Rattle.std.specs.Vec.{vec_items, vec_capacity}
 use Rattle.strc_semantics.specs.declared.word.Word.{Word}
 use Rattle.strc_core.specs.declared.stop.Stop.{Stop}
 use Rattle.strc_core.specs.Parcels.{ParcelView, parcel, load_of, with_block, with_words, block_at}
-use Rattle.strc_core.specs.Parcels.{words_at, filled}
+use Rattle.strc_core.specs.Parcels.{filled}
 
 module _ {X : Type 0} (lists : List (Vec X)) (at : ℕ) (old new : Vec X)
     (was : old ≡ get_or lists at old) where
@@ -73,12 +73,7 @@ module _ (blocks : List (Vec ℤ)) (words : List (Vec Word)) (stop : Option Stop
       ∙ (λ i. sym held i ++ take (sym room i - length (sym held i)) items)))
 
   -- The words of a tape, and a parcel with others.
-  pub words_are : (at : ℕ) (old : Vec Word) → at < length now.load.words → old ≡ get_or words at old
-      → words_at now.load at ≡ vec_items old
-  words_are at old within was = subst
-      (λ (n : ParcelView). at < length n.load.words → words_at n.load at ≡ vec_items old)
-      view (items_at words at old old was) within
-
+  -- A parcel with other words of a tape.
   pub words_set : (at : ℕ) (old new : Vec Word) → old ≡ get_or words at old
       → parcel (load_of blocks (set words at new)) stop last
       ≡ parcel (with_words now.load at (vec_items new)) now.stop now.last
@@ -91,25 +86,6 @@ module _ (blocks : List (Vec ℤ)) (words : List (Vec Word)) (stop : Option Stop
         rooms = map vec_capacity blocks;
         words = items_set words at old new was i;
       }) stop last)
-
-  -- A parcel with one word more, or with none more.
-  pub words_added : {U E : Type 0} (result : Result U E) (at : ℕ) (old new : Vec Word) (word : Word)
-      → at < length now.load.words → old ≡ get_or words at old
-      → MatchResult result (λ _. vec_items new ≡ vec_items old ++ word ∷ [])
-      (λ _. vec_items new ≡ vec_items old)
-      → MatchResult result
-      (λ _. parcel (load_of blocks (set words at new)) stop last
-      ≡ parcel (with_words now.load at (words_at now.load at ++ word ∷ [])) now.stop now.last)
-      (λ _. parcel (load_of blocks (set words at new)) stop last ≡ now)
-  words_added (Ok _) at old new word within was added = words_set at old new was
-      ∙ ap (λ l. parcel (with_words now.load at l) now.stop now.last)
-      (added ∙ ap (λ l. l ++ word ∷ []) (sym (words_are at old within was)))
-  words_added (Err _) at old new word within was kept =
-      (λ i. parcel (record {
-        blocks = map vec_items blocks;
-        rooms = map vec_capacity blocks;
-        words = map-set_same vec_items words at new old (kept ∙ ap vec_items was) i;
-      }) stop last) ∙ view
 
 -- One list more is emptied, whose memory stays.
 pub clears : {X : Type 0} (lists : List (Vec X)) (i : ℕ) (old new : Vec X)

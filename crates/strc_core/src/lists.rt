@@ -1,11 +1,8 @@
 // Lists whose memory stays.
 
-ghost use Rattle.std.specs.Prelude.{◌≡◌, ◌+◌, ◌-◌, ◌≤◌, ◌++◌, ◌∷◌, [], map, length, replicate};
-ghost use Rattle.std.specs.Prelude.{take, vec_len, MatchResult};
+ghost use Rattle.std.specs.Prelude.{◌≡◌, ◌+◌, ◌-◌, ◌≤◌, ◌++◌, [], map, length, replicate};
+ghost use Rattle.std.specs.Prelude.{take, vec_len};
 ghost use Rattle.std.specs.Vec.{vec_items, vec_capacity};
-
-use std::alloc::AllocError;
-use strc_semantics::word::Word;
 
 /// Appends items to a list that has room for them.
 pub(crate) fn append_within(list: &mut Vec<i32>, items: &[i32])
@@ -26,17 +23,6 @@ pub(crate) fn append_most(list: &mut Vec<i32>, items: &[i32])
 {
     let room = list.capacity().saturating_sub(list.len());
     append_within(list, &items[..items.len().min(room)]);
-}
-
-/// Appends a word, unless memory is refused.
-pub(crate) fn add_word(words: &mut Vec<Word>, word: Word) -> Result<(), AllocError>
-    ensures { MatchResult result (λ _. words.new.items ≡ words.old.items ++ word ∷ [])
-        (λ _. words.new.items ≡ words.old.items) }
-{
-    match words.push(word) {
-        Ok(()) => Ok(()),
-        Err(_) => Err(AllocError),
-    }
 }
 
 /// Empties each of these lists.

@@ -1,11 +1,11 @@
 // A parcel: what goes from worker to worker.
 
-ghost use Rattle.std.specs.Prelude.{◌≡◌, ◌+◌, ◌<◌, ◌≤◌, ◌++◌, ◌∷◌, ◌⊎◌, [], false, length, IfOk};
-ghost use Rattle.std.specs.Prelude.{Some, None, is_some, slice_index_or, slice_set, MatchResult};
+ghost use Rattle.std.specs.Prelude.{◌≡◌, ◌+◌, ◌<◌, ◌≤◌, ◌++◌, ◌⊎◌, [], false, length, IfOk};
+ghost use Rattle.std.specs.Prelude.{Some, None, is_some, slice_index_or, slice_set};
 ghost use Rattle.strc_core.specs.Actors.{or_else};
 ghost use Rattle.strc_core.specs.declared.stop.Stop.TheVariants.{NoMemory};
 
-use crate::lists::{add_word, append_most, append_within, clear_all};
+use crate::lists::{append_most, append_within, clear_all};
 use crate::making::{blocks_with, words_of};
 use crate::stop::Stop;
 use std::alloc::{AllocError, Global};
@@ -198,18 +198,6 @@ impl Parcel {
         if tape < self.words.len() {
             self.words[tape] = words;
         }
-    }
-
-    /// Appends a word to a tape. Where memory is refused, the parcel stays as it is.
-    pub fn push_word(&mut self, tape: usize, word: Word) -> Result<(), AllocError>
-        requires { tape < length self.old.load.words }
-        ensures { MatchResult result
-            (λ _. self.new ≡ parcel
-            (with_words self.old.load tape (words_at self.old.load tape ++ word ∷ []))
-            self.old.stop self.old.last)
-            (λ _. self.new ≡ self.old) }
-    {
-        add_word(&mut self.words[tape], word)
     }
 
     /// Empties blocks and tapes. The rooms, the stop and the mark stay. It takes no memory.

@@ -10,7 +10,6 @@ pub mod Marks
 pub mod OneFusion
 pub mod Refusals
 pub mod Steps
-pub mod Copies
 pub mod GreedyOnce
 pub mod Exclusion
 pub mod Planned

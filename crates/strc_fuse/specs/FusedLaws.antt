@@ -7,9 +7,8 @@ use Rattle.strc_schedule.specs.RoundRates.{is_copy}
 use Rattle.strc_schedule.specs.Firings.{Firings}
 use Rattle.strc_schedule.specs.Schedules.{IsSchedule, ScheduleParts}
 use Rattle.strc_admissible.specs.Planned.{IsPlanned}
-use Rattle.strc_fuse.specs.Fusion.{FusedPass, IsFusible}
+use Rattle.strc_fuse.specs.Fusion.{IsFusion, FusedPass, IsFusible}
 use Rattle.strc_fuse.specs.Units.{is_free, round_units, ArePlaced}
-use Rattle.strc_fuse.specs.Fusions.{IsFusion}
 
 -- a planned schedule whose units are placed can be run round after round, and its graph has no
 -- copies: all that `fuse` asks of what it keeps

@@ -4,5 +4,4 @@ pub mod Rows
 pub mod Sentences
 pub mod Steps
 pub mod Units
-pub mod Fusions
 pub mod FusedLaws

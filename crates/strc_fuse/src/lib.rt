@@ -9,12 +9,10 @@
 // wires the graph's order is.
 #![tactic(auto)]
 
-mod copying;
 pub mod error;
 mod freedom;
 pub mod fused_laws;
 pub mod fusing;
-pub mod fusion;
 mod joining;
 pub mod laws;
 mod lists;

@@ -178,18 +178,6 @@ impl Graph {
         self.nodes.as_slice()
     }
 
-    /// The nodes, taken out of the graph.
-    pub fn into_nodes(self) -> Vec<Node>
-        ensures { result.items ≡ self.nodes }
-    {
-        let Graph {
-            nodes,
-            channels: _,
-            outer_loops: _,
-        } = self;
-        nodes
-    }
-
     /// The channels.
     pub fn channels(&self) -> &[Channel]
         ensures channels { result.now ≡ self.now.channels }

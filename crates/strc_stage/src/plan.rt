@@ -1,6 +1,6 @@
 // A plan: what a program is run by.
 
-ghost use Rattle.std.specs.Prelude.{◌≡◌, All, IfOk, length, slice_get};
+ghost use Rattle.std.specs.Prelude.{◌≡◌, All, IfOk, length};
 ghost use Rattle.strc_graph.specs.Graphs.{IsGraph};
 ghost use Rattle.strc_graph.specs.NodeView.{graph_view};
 ghost use Rattle.strc_schedule.specs.Peaks.{HasNodes};
@@ -214,14 +214,6 @@ impl Plan {
         ensures { result.now ≡ self.now.split.origins }
     {
         self.shared().split.origins()
-    }
-
-    /// The node of `graph` whose firings the node of this number does, and from which one on in a
-    /// round. `None` where there is no such node.
-    pub fn origin(&self, node: u32) -> Option<Origin>
-        ensures { result ≡ slice_get self.now.split.origins node }
-    {
-        self.origins().get(node as usize).copied()
     }
 
     /// What is known of each plan, together.
