@@ -1,3 +1,5 @@
 pub mod Beginnings
 pub mod Headings
 pub mod Joining
+pub mod Orders
+pub mod Trees

@@ -3,6 +3,7 @@ pub mod Joined
 pub mod Messages
 pub mod Operators
 pub mod Places
+pub mod Preorders
 pub mod Rates
 pub mod Spelling
 pub mod Tokens

@@ -4,8 +4,10 @@
 // statements they come from, their names, counts and stuck loops.
 // The theorems to rely on: `place_of`: line and column are the text's; `heading`: what is marked of
 // a statement are its tokens up to its first block or semicolon, and of one that faults its only
-// operator that can (`faulting_part`); `first_apart` is the first node that no channels join with
-// node 0; a message is its file, a place where it is about one, what it says, and a line feed.
+// operator that can (`faulting_part`); `preorder_of` gives a stream's nodes in preorder, each with
+// the statement that adds it, and the pairs of them that channels join, and `first_apart` the first
+// node that no channels join with node 0; a message is its file, a place where it is about one,
+// what it says, and a line feed.
 // Stands on strc_lex, whose tokens these are, on strc_semantics, whose faults, on strc_stream and
 // strc_graph, whose nodes, on strc_balance, whose counts, and on memchr, strsim and itoa.
 #![tactic(auto)]

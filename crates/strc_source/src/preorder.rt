@@ -1,10 +1,17 @@
 // The nodes of a program's stream in preorder, where they come from, and which of them channels
 // join. A program has them also where its flat graph is refused.
 
-ghost use Rattle.std.specs.Prelude.{◌≡◌, ◌⊎◌, ◌<◌, IfOk, All, length, position, replicate};
-ghost use Rattle.std.specs.Prelude.{not, true, false};
+ghost use Rattle.std.specs.Prelude.{◌≡◌, ◌+◌, ◌⊎◌, ◌<◌, OnOk, IfOk, All, None, length, position};
+ghost use Rattle.std.specs.Prelude.{replicate, not, true, false};
+ghost use Rattle.strc_graph.specs.Carriers.{carries_in, splitter_carries};
+ghost use Rattle.strc_graph.specs.Graphs.{Joiner};
+ghost use Rattle.strc_graph.specs.NodeView.{splitter_view};
 ghost use Rattle.strc_source.specs.Joined.{AreJoined, AreKept, IsFollowed, IsNext, IsNextBy};
 ghost use Rattle.strc_source.specs.Joined.{joined_count};
+ghost use Rattle.strc_source.specs.Preorders.{IsPreorderOf, AddsNodes, AddsLinks, node_count};
+ghost use Rattle.strc_source.specs.Preorders.{tree_of, trees_of, nodes_of, row_nodes, size_of};
+ghost use Rattle.strc_source.specs.Preorders.{row_size, ends_of, side_exits, Row, node_if};
+ghost use Rattle.strc_source.specs.Preorders.{part_name, links_of, side_links};
 
 use crate::message::Message;
 use std::alloc::Global;
@@ -69,7 +76,9 @@ struct Ends {
 }
 
 /// The nodes of a stream.
-pub fn preorder_of(alloc: Global, stream: &Stream) -> Result<Preorder, NoMemory> {
+pub fn preorder_of(alloc: Global, stream: &Stream) -> Result<Preorder, NoMemory>
+    ensures { IfOk result (IsPreorderOf stream.now) }
+{
     let mut order = Preorder {
         nodes: Vec::new(alloc),
         links: Vec::new(alloc),
@@ -78,13 +87,23 @@ pub fn preorder_of(alloc: Global, stream: &Stream) -> Result<Preorder, NoMemory>
     Ok(order)
 }
 
+/// Adds the nodes and the channels of a stream; the nodes at which its items come and go.
 #[cycle(preorder)]
 fn visit(
     alloc: Global,
     stream: &Stream,
     added: Option<Span>,
     order: &mut Preorder,
-) -> Result<Ends, NoMemory> {
+) -> Result<Ends, NoMemory>
+    ensures nodes { OnOk result (AddsNodes order.old order.new
+        (nodes_of added (tree_of stream.now))) }
+    ensures count { OnOk result (node_count order.new
+        ≡ node_count order.old + size_of (tree_of stream.now)) }
+    ensures links { OnOk result (AddsLinks order.old order.new
+        (links_of (node_count order.old) (tree_of stream.now))) }
+    ensures ends { IfOk result (λ ends. ends
+        ≡ ends_of (node_count order.old) (tree_of stream.now)) }
+{
     match stream {
         Stream::Filter(instance) => order.add_filter(alloc, instance, added),
         Stream::Identity => order.add(alloc, b"Identity", added),
@@ -92,15 +111,9 @@ fn visit(
         Stream::FileWriter(text) => order.add_writer(alloc, text.as_bytes(), added),
         Stream::Pipeline(children) => visit_row(alloc, children, added, order),
         Stream::SplitJoin(splitter, children, joiner) => {
-            let entry = match splitter {
-                Some(_) => Some(order.add_part(alloc, Part::Split, added)?),
-                None => None,
-            };
+            let entry = order.add_part_if(alloc, splitter.is_some(), Part::Split, added)?;
             let exits = visit_sides(alloc, children, added, entry, order)?;
-            let exit = match joiner {
-                Some(_) => Some(order.add_part(alloc, Part::Join, added)?),
-                None => None,
-            };
+            let exit = order.add_part_if(alloc, joiner.is_some(), Part::Join, added)?;
             order.link_all(&exits, exit)?;
             Ok(Ends { entry, exit })
         }
@@ -114,36 +127,47 @@ fn visit(
             order.link(Some(split), back.entry)?;
             order.link(back.exit, Some(joiner))?;
             Ok(Ends {
-                entry: first_if(joiner, takes_items(weights)),
-                exit: first_if(split, gives_items(splitter)),
+                entry: node_if(takes_items(weights), joiner),
+                exit: node_if(gives_items(splitter), split),
             })
         }
         Stream::Placed(place, inner) => visit(alloc, inner, Some(*place), order),
     }
 }
 
-/// Streams in a row.
+/// Adds those of streams in a row.
 #[cycle(preorder)]
 fn visit_row(
     alloc: Global,
     streams: &[Stream],
     added: Option<Span>,
     order: &mut Preorder,
-) -> Result<Ends, NoMemory> {
+) -> Result<Ends, NoMemory>
+    ensures nodes { OnOk result (AddsNodes order.old order.new
+        (nodes_of added (Row (trees_of streams.now)))) }
+    ensures count { OnOk result (node_count order.new
+        ≡ node_count order.old + size_of (Row (trees_of streams.now))) }
+    ensures links { OnOk result (AddsLinks order.old order.new
+        (links_of (node_count order.old) (Row (trees_of streams.now)))) }
+    ensures ends { IfOk result (λ ends. ends
+        ≡ ends_of (node_count order.old) (Row (trees_of streams.now))) }
+{
     let mut entry = None;
     let mut exit = None;
-    for (place, stream) in streams.iter().enumerate() {
+    for stream in streams {
         let ends = visit(alloc, stream, added, order)?;
-        if place == 0 {
-            entry = ends.entry;
-        }
         order.link(exit, ends.entry)?;
+        entry = Some(entry.unwrap_or(ends.entry));
         exit = ends.exit;
     }
-    Ok(Ends { entry, exit })
+    Ok(Ends {
+        entry: entry.unwrap_or(None),
+        exit,
+    })
 }
 
-/// Streams side by side, after a splitter where there is one; the nodes from which their items go.
+/// Adds those of streams side by side, after a splitter where there is one; the nodes from which
+/// their items go.
 #[cycle(preorder)]
 fn visit_sides(
     alloc: Global,
@@ -151,7 +175,16 @@ fn visit_sides(
     added: Option<Span>,
     splitter: Option<usize>,
     order: &mut Preorder,
-) -> Result<Vec<Option<usize>>, NoMemory> {
+) -> Result<Vec<Option<usize>>, NoMemory>
+    ensures nodes { OnOk result (AddsNodes order.old order.new
+        (row_nodes added (trees_of streams.now))) }
+    ensures count { OnOk result (node_count order.new
+        ≡ node_count order.old + row_size (trees_of streams.now)) }
+    ensures links { OnOk result (AddsLinks order.old order.new
+        (side_links splitter (node_count order.old) (trees_of streams.now))) }
+    ensures exits { IfOk result (λ exits. exits.items
+        ≡ side_exits (node_count order.old) (trees_of streams.now)) }
+{
     let mut exits = Vec::new(alloc);
     for stream in streams {
         let ends = visit(alloc, stream, added, order)?;
@@ -161,12 +194,16 @@ fn visit_sides(
     Ok(exits)
 }
 
-fn first_if(node: usize, is: bool) -> Option<usize> {
+fn node_if(is: bool, node: usize) -> Option<usize>
+    ensures { result ≡ node_if is node }
+{
     if is { Some(node) } else { None }
 }
 
 /// Whether a loop's joiner takes items from before the loop.
-fn takes_items(weights: &[u32]) -> bool {
+fn takes_items(weights: &[u32]) -> bool
+    ensures { result ≡ carries_in (Joiner weights.now) 0 }
+{
     match weights.first() {
         Some(weight) => *weight > 0,
         None => false,
@@ -174,7 +211,9 @@ fn takes_items(weights: &[u32]) -> bool {
 }
 
 /// Whether a loop's splitter gives items to what follows the loop.
-fn gives_items(splitter: &Splitter) -> bool {
+fn gives_items(splitter: &Splitter) -> bool
+    ensures { result ≡ splitter_carries (splitter_view splitter.now) 0 }
+{
     match splitter {
         Splitter::Duplicate(carried) => carried.first().copied().unwrap_or(false),
         Splitter::Roundrobin(weights) => takes_items(weights),
@@ -182,8 +221,14 @@ fn gives_items(splitter: &Splitter) -> bool {
 }
 
 impl Preorder {
-    ghost use Rattle.std.specs.Prelude.{◌≡◌, ◌<◌, IfOk, IfSome, length};
+    ghost use Rattle.std.specs.Prelude.{◌≡◌, ◌+◌, ◌<◌, OnOk, IfOk, IfSome, length, [], ◌∷◌};
+    ghost use Rattle.std.specs.Prelude.{true, false, None, Some, codes};
+    ghost use Rattle.std.specs.Option.{option_map};
+    ghost use Rattle.strc_stream.specs.declared.stream.Stream.TheVariants as stream;
     ghost use Rattle.strc_source.specs.Joined.{IsFirstApart};
+    ghost use Rattle.strc_source.specs.Preorders.{AddsNodes, AddsLinks, node_count, Node};
+    ghost use Rattle.strc_source.specs.Preorders.{nodes_of, ends_of, part_node, part_nodes};
+    ghost use Rattle.strc_source.specs.Preorders.{one_if, node_if, link, links_to, tree_of};
 
     fn push(
         &mut self,
@@ -192,7 +237,18 @@ impl Preorder {
         reads: bool,
         file: Option<Vec<u8>>,
         origin: Origin,
-    ) -> Result<usize, NoMemory> {
+    ) -> Result<usize, NoMemory>
+        ensures nodes { OnOk result (AddsNodes self.old self.new (record {
+          name = name.now;
+          reads = reads;
+          file = option_map (λ text. text.items) file;
+          added = origin.added;
+          part = origin.part;
+        } ∷ [])) }
+        ensures count { OnOk result (node_count self.new ≡ node_count self.old + 1) }
+        ensures links { OnOk result (self.new.links.items ≡ self.old.links.items) }
+        ensures number { IfOk result (λ node. node ≡ node_count self.old) }
+    {
         let number = self.nodes.len();
         self.nodes.push(Seen {
             name: name.to_vec(alloc)?,
@@ -204,7 +260,14 @@ impl Preorder {
     }
 
     /// A node that takes items and gives some.
-    fn add(&mut self, alloc: Global, name: &[u8], added: Option<Span>) -> Result<Ends, NoMemory> {
+    fn add(&mut self, alloc: Global, name: &[u8], added: Option<Span>) -> Result<Ends, NoMemory>
+        ensures nodes { OnOk result (AddsNodes self.old self.new
+            (nodes_of added (Node name.now false None true true))) }
+        ensures count { OnOk result (node_count self.new ≡ node_count self.old + 1) }
+        ensures links { OnOk result (self.new.links.items ≡ self.old.links.items) }
+        ensures ends { IfOk result (λ ends. ends
+            ≡ ends_of (node_count self.old) (Node name.now false None true true)) }
+    {
         let node = self.push(alloc, name, false, None, statement(added))?;
         Ok(Ends {
             entry: Some(node),
@@ -212,7 +275,14 @@ impl Preorder {
         })
     }
 
-    fn add_reader(&mut self, alloc: Global, added: Option<Span>) -> Result<Ends, NoMemory> {
+    fn add_reader(&mut self, alloc: Global, added: Option<Span>) -> Result<Ends, NoMemory>
+        ensures nodes { OnOk result (AddsNodes self.old self.new
+            (nodes_of added (Node (codes "FileReader") true None false true))) }
+        ensures count { OnOk result (node_count self.new ≡ node_count self.old + 1) }
+        ensures links { OnOk result (self.new.links.items ≡ self.old.links.items) }
+        ensures ends { IfOk result (λ ends. ends
+            ≡ ends_of (node_count self.old) (Node (codes "FileReader") true None false true)) }
+    {
         let node = self.push(alloc, b"FileReader", true, None, statement(added))?;
         Ok(Ends {
             entry: None,
@@ -225,7 +295,14 @@ impl Preorder {
         alloc: Global,
         file: &[u8],
         added: Option<Span>,
-    ) -> Result<Ends, NoMemory> {
+    ) -> Result<Ends, NoMemory>
+        ensures nodes { OnOk result (AddsNodes self.old self.new
+            (nodes_of added (Node (codes "FileWriter") false (Some file.now) true false))) }
+        ensures count { OnOk result (node_count self.new ≡ node_count self.old + 1) }
+        ensures links { OnOk result (self.new.links.items ≡ self.old.links.items) }
+        ensures ends { IfOk result (λ ends. ends ≡ ends_of (node_count self.old)
+            (Node (codes "FileWriter") false (Some file.now) true false)) }
+    {
         let file = file.to_vec(alloc)?;
         let node = self.push(alloc, b"FileWriter", false, Some(file), statement(added))?;
         Ok(Ends {
@@ -239,7 +316,14 @@ impl Preorder {
         alloc: Global,
         instance: &Instance,
         added: Option<Span>,
-    ) -> Result<Ends, NoMemory> {
+    ) -> Result<Ends, NoMemory>
+        ensures nodes { OnOk result (AddsNodes self.old self.new (nodes_of added
+            (tree_of (stream.Filter instance.now)))) }
+        ensures count { OnOk result (node_count self.new ≡ node_count self.old + 1) }
+        ensures links { OnOk result (self.new.links.items ≡ self.old.links.items) }
+        ensures ends { IfOk result (λ ends. ends
+            ≡ ends_of (node_count self.old) (tree_of (stream.Filter instance.now))) }
+    {
         let (name, declared) = match &instance.name {
             Some(name) => (name.as_bytes(), name.place()),
             None => (b"filter".as_slice(), None),
@@ -252,8 +336,8 @@ impl Preorder {
         let node = self.push(alloc, name, false, None, origin)?;
         let tree = instance.code.tree();
         Ok(Ends {
-            entry: first_if(node, tree.input == ItemType::Int),
-            exit: first_if(node, tree.output == ItemType::Int),
+            entry: node_if(tree.input == ItemType::Int, node),
+            exit: node_if(tree.output == ItemType::Int, node),
         })
     }
 
@@ -263,33 +347,57 @@ impl Preorder {
         alloc: Global,
         part: Part,
         added: Option<Span>,
-    ) -> Result<usize, NoMemory> {
+    ) -> Result<usize, NoMemory>
+        ensures nodes { OnOk result (AddsNodes self.old self.new (part_node part added ∷ [])) }
+        ensures count { OnOk result (node_count self.new ≡ node_count self.old + 1) }
+        ensures links { OnOk result (self.new.links.items ≡ self.old.links.items) }
+        ensures number { IfOk result (λ node. node ≡ node_count self.old) }
+    {
         let origin = Origin {
             declared: None,
             added,
             part: Some(part),
         };
-        let name: &[u8] = if part == Part::Split {
-            b"split"
+        self.push(alloc, part_name(part), false, None, origin)
+    }
+
+    /// A splitter or a joiner, where there is one.
+    fn add_part_if(
+        &mut self,
+        alloc: Global,
+        is: bool,
+        part: Part,
+        added: Option<Span>,
+    ) -> Result<Option<usize>, NoMemory>
+        ensures nodes { OnOk result (AddsNodes self.old self.new (part_nodes is part added)) }
+        ensures count { OnOk result (node_count self.new ≡ node_count self.old + one_if is) }
+        ensures links { OnOk result (self.new.links.items ≡ self.old.links.items) }
+        ensures number { IfOk result (λ node. node ≡ node_if is (node_count self.old)) }
+    {
+        if is {
+            Ok(Some(self.add_part(alloc, part, added)?))
         } else {
-            b"join"
-        };
-        self.push(alloc, name, false, None, origin)
+            Ok(None)
+        }
     }
 
     /// A channel, where both its ends have items.
-    fn link(&mut self, source: Option<usize>, target: Option<usize>) -> Result<(), NoMemory> {
+    fn link(&mut self, source: Option<usize>, target: Option<usize>) -> Result<(), NoMemory>
+        ensures nodes { self.new.nodes ≡ self.old.nodes }
+        ensures links { OnOk result (AddsLinks self.old self.new (link source target)) }
+    {
         if let (Some(source), Some(target)) = (source, target) {
             self.links.push((source, target))?;
         }
         Ok(())
     }
 
-    fn link_all(
-        &mut self,
-        sources: &[Option<usize>],
-        target: Option<usize>,
-    ) -> Result<(), NoMemory> {
+    /// A channel from each source, where both its ends have items.
+    fn link_all(&mut self, sources: &[Option<usize>], target: Option<usize>) -> Result<(), NoMemory>
+        ensures nodes { self.new.nodes ≡ self.old.nodes }
+        ensures links { OnOk result (AddsLinks self.old self.new
+            (links_to target sources.now)) }
+    {
         for source in sources {
             self.link(*source, target)?;
         }
@@ -326,8 +434,22 @@ impl Preorder {
     }
 }
 
+/// The name of a splitter or a joiner.
+fn part_name(part: Part) -> &'static [u8]
+    ensures { result.now ≡ part_name part }
+{
+    if part == Part::Split {
+        b"split"
+    } else {
+        b"join"
+    }
+}
+
 /// Where a node comes from that is added as it is.
-fn statement(added: Option<Span>) -> Origin {
+fn statement(added: Option<Span>) -> Origin
+    ensures added { result.added ≡ added }
+    ensures part { result.part ≡ None }
+{
     Origin {
         declared: None,
         added,
