@@ -32,6 +32,6 @@ pub drawn_unrefused : (text : List ℕ) (command : Command) → AcceptedOrRefuse
     → IsDrawn text (choice_of command) plan result → IsRefusedAt text command (Ok result)
 drawn_unrefused text command law plan is (Ok answer) drawn = tt
 drawn_unrefused text command law plan is (Err (stop.Refused placed)) drawn = IsLocated.Unread
-    (read_refusal law text (choice_of command) plan is placed.refused drawn.0) drawn.1
+    (read_refusal law text (choice_of command) plan is placed.refusal drawn.0) drawn.1
 drawn_unrefused text command law plan is (Err (stop.BadInput word)) drawn = tt
 drawn_unrefused text command law plan is (Err (stop.NotRun why)) drawn = tt

@@ -147,7 +147,7 @@ pub record HasBadWorkers (text : List ℕ) (choice : Choice) (workers : ℕ) : T
 -- number; its rounds aren't run, or what would run them isn't drawn
 abbrev pub IsStopped : List ℕ → Command → (bytes : Option (List ℕ)) → Stop → Type 0
 IsStopped text command bytes (stop.Refused placed) =
-    IsTrueOf text (choice_of command) placed.refused
+    IsTrueOf text (choice_of command) placed.refusal
 IsStopped text command bytes (stop.BadInput word) =
     ReadsInput text command × WritesNumbers bytes (Err word)
 IsStopped text (command.Run rounds workers ways fuse stats main) bytes (stop.NotRun refused) =

@@ -1,6 +1,7 @@
 -- The pictures of a plan, for whatever text it is the plan of.
-use Rattle.std.specs.Prelude.{◌≡◌, ℕ, List, None, Result, Ok, Err}
+use Rattle.std.specs.Prelude.{◌≡◌, ℕ, List, Result, Ok, Err}
 use Rattle.strc_stage.specs.Plans.{PlanParts}
+use Rattle.strc_refusal.specs.Placing.{unplaced}
 use Rattle.strc_refusal.specs.declared.refusal.Refusal.TheVariants.{NoMemory}
 use Rattle.strc_refusal.specs.declared.run_refusal.RunRefusal.TheVariants.{BadWorkers}
 use Rattle.strc_run.specs.Choices.{Choice}
@@ -19,7 +20,7 @@ IsDrawn text choice plan (Ok (answer.Drawn picture)) =
     IsPlanOf text choice plan → HasPicture text choice picture.items
 IsDrawn text choice plan (Ok _) = ⊥
 IsDrawn text choice plan (Err (stop.Refused placed)) =
-    IsTrueOf text choice placed.refused × (placed.statement ≡ None)
+    IsTrueOf text choice placed.refusal × (placed ≡ unplaced placed.refusal)
 IsDrawn text choice plan (Err _) = ⊥
 
 -- what so many workers run of a plan is drawn; or they can't run it, or memory runs out
@@ -28,6 +29,6 @@ AreStagesDrawn plan workers (Ok (answer.Drawn picture)) =
     AreWorkers workers × (picture.items ≡ stages_text plan workers)
 AreStagesDrawn plan workers (Ok _) = ⊥
 AreStagesDrawn plan workers (Err (stop.Refused placed)) =
-    (placed.refused ≡ NoMemory) × (placed.statement ≡ None)
+    placed ≡ unplaced NoMemory
 AreStagesDrawn plan workers (Err (stop.NotRun BadWorkers)) = ¬ AreWorkers workers
 AreStagesDrawn plan workers (Err _) = ⊥

@@ -45,7 +45,7 @@ answer_status (Ok (answer.Ran plan (outcome.Fault node firing round cause tapes)
 answer_status (Ok (answer.Checked nodes channels)) = status.Done
 answer_status (Ok (answer.Planned plan)) = status.Done
 answer_status (Ok (answer.Drawn picture)) = status.Done
-answer_status (Err (stop.Refused placed)) = refusal_status placed.refused
+answer_status (Err (stop.Refused placed)) = refusal_status placed.refusal
 answer_status (Err (stop.BadInput word)) = status.Refused
 answer_status (Err (stop.NotRun refused)) = run_refusal_status refused
 

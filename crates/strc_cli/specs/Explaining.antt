@@ -1,20 +1,22 @@
 -- What a person reads of an answer, and where a text is refused.
 use Rattle.std.specs.Prelude.{◌≡◌, ◌⊎◌, ⊤, ℕ, List, [], Option, Result, Ok, Err}
 use Rattle.strc_run.specs.Located.{IsLocated}
-use Rattle.strc_messages.specs.Told.{TellsOfText}
+use Rattle.strc_refusal.specs.declared.outcome.Outcome.TheVariants as outcome
+use Rattle.strc_messages.specs.Told.{TellsFaultOfText, TellsOfText}
 use Rattle.strc_output.specs.declared.stop.Stop.{Stop}
 use Rattle.strc_output.specs.declared.stop.Stop.TheVariants as stop
 use Rattle.strc_cli.specs.declared.answer.Answer.{Answer}
+use Rattle.strc_cli.specs.declared.answer.Answer.TheVariants as answer
 use Rattle.strc_cli.specs.declared.execute.CliError.{CliError}
 use Rattle.strc_cli.specs.declared.execute.Status.{Status}
 use Rattle.strc_cli.specs.declared.line.Command.{Command}
 use Rattle.strc_cli.specs.Answering.{IsAnswered, choice_of}
 use Rattle.strc_cli.specs.Executes.{Device, IsReported}
 
--- a text that is refused is so at the statement that breaks its rule
+-- of a text that is refused the statement that breaks its rule is known, its stream and its graph
 abbrev pub IsRefusedAt : List ℕ → Command → Result (Result Answer Stop) CliError → Type 0
 IsRefusedAt text command (Ok (Err (stop.Refused placed))) =
-    IsLocated text (choice_of command) placed.refused placed.statement
+    IsLocated text (choice_of command) placed
 IsRefusedAt text command _ = ⊤
 
 -- a text isn't refused
@@ -22,11 +24,13 @@ abbrev pub IsUnrefused : Result (Result Answer Stop) CliError → Type 0
 IsUnrefused (Ok (Err (stop.Refused placed))) = ⊥
 IsUnrefused _ = ⊤
 
--- a message about a refusal of the text; of a run and of its input it isn't said here
+-- a message about a refusal of the text, or a fault of its run; of other ends it isn't said here
 abbrev pub TellsOf : (file text : List ℕ) → (asked : Option (List ℕ)) → Result Answer Stop
     → (message : List ℕ) → Type 0
 TellsOf file text asked (Err (stop.Refused placed)) message =
-    TellsOfText file text asked placed.refused placed.statement message
+    TellsOfText file text asked placed message
+TellsOf file text asked (Ok (answer.Ran plan (outcome.Fault node firing round cause tapes)))
+    message = TellsFaultOfText file text plan.graph.nodes node firing cause message
 TellsOf file text asked _ message = ⊤
 
 -- there is such a message, or none where memory runs out

@@ -56,7 +56,7 @@ pub fn answer_to<G: Gate<Stage>, R: Threads + Wait + Sync, I: Source>(
     ensures failed { result ≡ Err CliError.Read → I.has_failed input.new ≡ true }
     ensures steady { result ≢ Err CliError.Read → I.has_failed input.new ≡ I.has_failed input.old }
     ensures unread { (input.new ≡ input.old) ⊎ ReadsInput text.now command.now }
-    // A refusal of the text is at the statement that breaks its rule.
+    // Of a refusal the statement that breaks the text's rule is known, the stream and the graph.
     ensures located { IsRefusedAt text.now command.now result }
 {
     // An accepted text isn't refused.

@@ -116,7 +116,7 @@ fn memory_line(answered: &Result<Answer, Stop>) -> Option<&'static [u8]>
         × (spec.answer_status answered.now ≡ Status.NoMemory)) }
 {
     match answered {
-        Err(Stop::Refused(placed)) => match placed.refused.refusal() {
+        Err(Stop::Refused(placed)) => match &placed.refusal {
             Refusal::NoMemory => Some(b"refused E25 NoMemory\n"),
             _ => None,
         },
@@ -148,7 +148,7 @@ fn answer_status(answered: &Result<Answer, Stop>) -> Status
         Ok(Answer::Checked { .. }) => Status::Done,
         Ok(Answer::Planned(_)) => Status::Done,
         Ok(Answer::Drawn(_)) => Status::Done,
-        Err(Stop::Refused(placed)) => match placed.refused.refusal() {
+        Err(Stop::Refused(placed)) => match &placed.refusal {
             Refusal::NoMemory => Status::NoMemory,
             _ => Status::Refused,
         },

@@ -50,7 +50,8 @@ pub fn execute_explained<G: Gate<Stage>, R: Threads + Wait + Sync, I: Source, O:
     ensures steady { result.result ≢ Err CliError.Read
         → I.has_failed input.new ≡ I.has_failed input.old }
     ensures unread { (input.new ≡ input.old) ⊎ ReadsInput text.now command.now }
-    // The message of a refused text is about the statement that breaks its rule, or a name in it.
+    // The message of a refused text is about the part of it that breaks the rule, and that of a
+    // fault about the part that faults.
     ensures explained { ExecutesExplained file.now text.now command.now (I.remaining input.old)
         result.result result.message.items
         (device_of (O.contents output.old) (O.has_failed output.old))

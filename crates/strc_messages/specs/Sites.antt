@@ -1,7 +1,8 @@
 -- Where a refusal's rule is broken: at the statement that is refused, or at a name or a token.
-use Rattle.std.specs.Prelude.{◌≡◌, ◌⊎◌, ⊤, ℕ, ◌≤◌, Bool, true, false, ◌||◌, bytes_eq, is_some}
+use Rattle.std.specs.Prelude.{ℕ, nat_le, Bool, false, ◌||◌, ◌&&◌, if◌then◌else◌, bytes_eq, is_some}
 use Rattle.std.specs.Prelude.{List, length, ◌-◌, slice_get, Option, Some, None}
 use Rattle.std.specs.List.{list_any}
+use Rattle.std.specs.Option.{option_or}
 use Rattle.strc_base.specs.declared.place.Span.{Span}
 use Rattle.strc_lex.specs.declared.token.Token.{Token}
 use Rattle.strc_syntax.specs.declared.tree.Decl.{Decl}
@@ -9,6 +10,7 @@ use Rattle.strc_syntax.specs.declared.tree.Program.{Program}
 use Rattle.strc_syntax.specs.View.{declaration_view}
 use Rattle.strc_check.specs.declared.site.Site.{Site}
 use Rattle.strc_statements.specs.Texts.{parameters_of}
+use Rattle.strc_refusal.specs.declared.placed.PlacedRefusal.{PlacedRefusal}
 use Rattle.strc_refusal.specs.declared.refusal.Refusal.{Refusal}
 use Rattle.strc_refusal.specs.declared.refusal.Refusal.TheVariants as refusal
 use Rattle.strc_source.specs.Spelling.{between}
@@ -16,9 +18,8 @@ use Rattle.strc_places.specs.Parts.{declaration_at}
 use Rattle.strc_places.specs.Streams.{declared_as}
 
 -- a place is within another
-pub record IsWithin (outer inner : Span) : Type 0 where
-  pub starts : outer.start ≤ inner.start
-  pub ends : inner.end ≤ outer.end
+abbrev pub is_within : (inner outer : Span) → Bool
+is_within inner outer = nat_le outer.start inner.start && nat_le inner.end outer.end
 
 -- these bytes are the name of a parameter of a declaration
 abbrev pub is_parameter : List ℕ → Decl → Bool
@@ -34,27 +35,24 @@ abbrev pub is_in_head : List ℕ → Option Decl → Bool
 is_in_head bytes None = false
 is_in_head bytes (Some declaration) = is_declared_name bytes declaration
 
--- a name at which a rule is broken: one within the statement, or one in the head of the declaration
--- whose own text breaks the rule
-abbrev pub IsName : (text : List ℕ) → Option Program → Refusal → (statement place : Span) → Type 0
-IsName text program (refusal.UnknownName name) statement place = IsWithin statement place
-IsName text program (refusal.TypeMismatch stream) statement place = IsWithin statement place
-    ⊎ (is_in_head (between text place) (declaration_at program stream) ≡ true)
-IsName text program (refusal.BadWeights stream) statement place =
-    is_in_head (between text place) (declaration_at program stream) ≡ true
-IsName text program (refusal.ConstFault cause) statement place =
-    is_some (declared_as (between text place) program) ≡ true
-IsName text program refused statement place = ⊥
+-- a rule can be broken by a name: by one within the statement, or by one in the head of the
+-- declaration whose own text breaks it
+abbrev pub is_name : (text : List ℕ) → Option Program → Refusal → (statement place : Span) → Bool
+is_name text program (refusal.UnknownName name) statement place = is_within place statement
+is_name text program (refusal.TypeMismatch stream) statement place = is_within place statement
+    || is_in_head (between text place) (declaration_at program stream)
+is_name text program (refusal.BadWeights stream) statement place =
+    is_in_head (between text place) (declaration_at program stream)
+is_name text program (refusal.ConstFault cause) statement place =
+    is_some (declared_as (between text place) program)
+is_name text program refused statement place = false
 
--- the part of the text that breaks a rule
-abbrev pub IsPart : (text : List ℕ) → Option Program → Refusal → (statement place : Span) → Type 0
-IsPart text program refused statement place =
-    (place ≡ statement) ⊎ IsName text program refused statement place
-
-abbrev pub IsAtPart : (text : List ℕ) → Option Program → Refusal → (statement : Span)
-    → Option Span → Type 0
-IsAtPart text program refused statement None = ⊥
-IsAtPart text program refused statement (Some place) = IsPart text program refused statement place
+-- the part of the text that breaks a rule: the statement, or where it is known the name
+abbrev pub part_of : (text : List ℕ) → Option Program → Refusal → (statement : Span)
+    → (name : Option Span) → Span
+part_of text program refused statement None = statement
+part_of text program refused statement (Some name) =
+    if is_name text program refused statement name then name else statement
 
 -- the place before a byte
 abbrev pub before : ℕ → Span
@@ -80,14 +78,19 @@ unread_at tokens (refusal.Lex at) = Some (before at)
 unread_at tokens (refusal.Parse token) = Some (token_place tokens token)
 unread_at tokens refused = None
 
--- a site that no statement is known of
-abbrev pub IsUnreadAt : Option Span → (place : Option Span) → Type 0
-IsUnreadAt None place = ⊤
-IsUnreadAt (Some at) place = place ≡ Some at
+-- where a rule is broken that no statement breaks: where a text can't be read, or at the own place
+-- of the refusal
+abbrev pub place_of : (text : List ℕ) → List Token → Option Program → Refusal
+    → (statement name : Option Span) → Option Span
+place_of text tokens program refused None name = option_or (unread_at tokens refused) name
+place_of text tokens program refused (Some statement) name =
+    Some (part_of text program refused statement name)
 
--- the site of a refusal; nothing is said of one that comes after the program is elaborated
-abbrev pub IsSiteOf : (text : List ℕ) → List Token → Option Program → Refusal
-    → (statement : Option Span) → Site → Type 0
-IsSiteOf text tokens program refused None site = IsUnreadAt (unread_at tokens refused) site.place
-IsSiteOf text tokens program refused (Some statement) site =
-    IsAtPart text program refused statement site.place
+-- where a refusal's rule is broken, and which rule of types, kinds and parts it is
+abbrev pub site_of : (text : List ℕ) → List Token → Option Program → PlacedRefusal → Site
+site_of text tokens program placed =
+    record {
+      place =
+          place_of text tokens program placed.refusal placed.statement placed.site.place;
+      mismatch = placed.site.mismatch;
+    }

@@ -1,13 +1,16 @@
 -- What a message tells of a refusal or a fault: the part of the text that it is about.
-use Rattle.std.specs.Prelude.{◌≡◌, ◌⊎◌, ⊤, ℕ, ◌+◌, Bool, List, [], drop, find, position}
+use Rattle.std.specs.Prelude.{◌≡◌, ◌⊎◌, ⊤, ℕ, ◌+◌, Bool, List, [], drop, find, position, slice_get}
 use Rattle.std.specs.Prelude.{Option, Some, None, IfSome, Vec}
 use Rattle.std.specs.Option.{option_and_then}
 use Rattle.std.specs.declared.alloc.Global.{Global}
 use Rattle.strc_base.specs.declared.place.Span.{Span}
 use Rattle.strc_lex.specs.declared.token.Token.{Token}
-use Rattle.strc_syntax.specs.View.{declaration_view}
+use Rattle.strc_syntax.specs.Tree.{Declaration}
+use Rattle.strc_syntax.specs.View.{declaration_view, program_view}
 use Rattle.strc_syntax.specs.declared.tree.Decl.{Decl}
 use Rattle.strc_syntax.specs.declared.tree.Program.{Program}
+use Rattle.strc_grammar.specs.Grammar.{Parses, kinds}
+use Rattle.strc_parse.specs.Placed.{IsProgramPlaced}
 use Rattle.strc_parse.specs.Texts.{HasTokens}
 use Rattle.strc_semantics.specs.declared.body.Body.{Body}
 use Rattle.strc_semantics.specs.declared.fault.Cause.{Cause}
@@ -16,17 +19,20 @@ use Rattle.strc_graph.specs.declared.graph.Node.{Node}
 use Rattle.strc_check.specs.declared.site.Site.{Site}
 use Rattle.strc_check.specs.declared.site.Mismatch.TheVariants as mismatch
 use Rattle.strc_statements.specs.MainStreams.{can_be_main}
+use Rattle.strc_stream.specs.declared.stream.Stream.{Stream}
+use Rattle.strc_refusal.specs.declared.placed.PlacedRefusal.{PlacedRefusal}
 use Rattle.strc_refusal.specs.declared.refusal.Refusal.{Refusal}
 use Rattle.strc_refusal.specs.declared.refusal.Refusal.TheVariants as refusal
 use Rattle.strc_source.specs.declared.preorder.Preorder.{Preorder}
 use Rattle.strc_source.specs.Messages.{IsMessageOf}
+use Rattle.strc_source.specs.Preorders.{IsPreorderOf}
 use Rattle.strc_source.specs.Spelling.{Marks}
 use Rattle.strc_places.specs.Marked.{MarksRefusal}
 use Rattle.strc_places.specs.Nodes.{heading_of, node_statement}
 use Rattle.strc_places.specs.Pairs.{AreApart, first_readers, first_writer}
 use Rattle.strc_places.specs.Parts.{declarations_of}
-use Rattle.strc_places.specs.Refused.{MarksFaultOf}
-use Rattle.strc_messages.specs.Sites.{IsSiteOf}
+use Rattle.strc_places.specs.Refused.{MarksFaultOf, body_fired}
+use Rattle.strc_messages.specs.Sites.{site_of}
 
 -- a declaration could be the main stream
 abbrev pub could_be_main : Decl → Bool
@@ -120,8 +126,8 @@ TellsMains file text tokens (Some second) (Some message) = (place : Option Span)
     × Marks text tokens second.name place × IsMessageOf file text place message.items
 TellsMains file text tokens second found = ⊥
 
--- a message about two parts that don't go together, where they are known: two streams of a name, two
--- that could be the main one, or two nodes
+-- a message about two parts that don't go together, where they are known: two streams of a name,
+-- two that could be the main one, or two nodes
 abbrev pub TellsTwo : (file text : List ℕ) → List Token → (asked : Option (List ℕ))
     → Option Program → Option Preorder → Option GraphParts → Site → Refusal
     → Option (Vec ℕ Global) → Type 0
@@ -136,28 +142,35 @@ TellsTwo file text tokens asked program order graph site refusal.Disconnected fo
 TellsTwo file text tokens asked program order graph site refused found = IfSome found (λ message.
     TellsSite file text tokens asked program order graph site refused message.items)
 
--- a message about a refusal, at a site of its statement; tree, nodes and graph are the program's as
--- far as they are known
-pub record TellsRefusal (file text : List ℕ) (tokens : List Token) (asked : Option (List ℕ))
-    (refused : Refusal) (statement : Option Span) (message : List ℕ) : Type 0 where
-  pub program : Option Program
-  pub order : Option Preorder
-  pub graph : Option GraphParts
-  pub site : Site
-  pub is_site : IsSiteOf text tokens program refused statement site
-  pub tells : TellsSite file text tokens asked program order graph site refused message
-
 -- the tokens of a text; none where it has none
 abbrev pub IsTokensOf : (text : List ℕ) → List Token → Type 0
 IsTokensOf text tokens = HasTokens text tokens
     ⊎ ((tokens ≡ []) × ((other : List Token) → HasTokens text other → ⊥))
 
--- a message about a refusal of a text, whose tokens are these
-pub record TellsOfText (file text : List ℕ) (asked : Option (List ℕ)) (refused : Refusal)
-    (statement : Option Span) (message : List ℕ) : Type 0 where
+-- the tree of a row of tokens; none where they are no program's
+abbrev pub IsTreeOf : List Token → Option Program → Type 0
+IsTreeOf tokens None = (program : List Declaration) → Parses (kinds tokens) program → ⊥
+IsTreeOf tokens (Some program) =
+    Parses (kinds tokens) (program_view program) × IsProgramPlaced tokens program
+
+-- the nodes of a stream, where there is one
+abbrev pub AreNodesOf : Option Stream → Option Preorder → Type 0
+AreNodesOf None order = order ≡ None
+AreNodesOf (Some stream) None = ⊥
+AreNodesOf (Some stream) (Some order) = IsPreorderOf stream order
+
+-- a message about a refusal of a text: about the part of it that breaks the rule, by the text's
+-- tokens and its tree, the nodes of the stream that is refused, and its graph
+pub record TellsOfText (file text : List ℕ) (asked : Option (List ℕ)) (placed : PlacedRefusal)
+    (message : List ℕ) : Type 0 where
   pub tokens : List Token
   pub is_tokens : IsTokensOf text tokens
-  pub tells : TellsRefusal file text tokens asked refused statement message
+  pub program : Option Program
+  pub is_tree : IsTreeOf tokens program
+  pub order : Option Preorder
+  pub are_nodes : AreNodesOf placed.stream order
+  pub tells : TellsSite file text tokens asked program order placed.graph
+      (site_of text tokens program placed) placed.refusal message
 
 -- a message about a fault in a firing of a node, of this body
 pub record TellsFault (file text : List ℕ) (tokens : List Token) (cause : Cause) (body : Body)
@@ -166,9 +179,9 @@ pub record TellsFault (file text : List ℕ) (tokens : List Token) (cause : Caus
   pub marks : MarksFaultOf text tokens cause body faulting place
   pub told : IsMessageOf file text place message
 
--- of a text, whose tokens are these
-pub record TellsFaultOfText (file text : List ℕ) (cause : Cause) (body : Body)
-    (faulting : Option Node) (message : List ℕ) : Type 0 where
+-- a message about a fault in a firing of one of these nodes, by its number, after so many others
+pub record TellsFaultOfText (file text : List ℕ) (nodes : List Node) (node firing : ℕ)
+    (cause : Cause) (message : List ℕ) : Type 0 where
   pub tokens : List Token
   pub is_tokens : IsTokensOf text tokens
-  pub tells : TellsFault file text tokens cause body faulting message
+  pub tells : TellsFault file text tokens cause (body_fired firing) (slice_get nodes node) message

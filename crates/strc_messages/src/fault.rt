@@ -52,8 +52,8 @@ pub fn fault_message<'a>(
 ) -> Result<Vec<u8>, NoMemory>
     ensures message { IfOk result (λ message. IsMessage file.now text.now message.items) }
     // It is about the part of the body that faults, where only one can, or about its filter.
-    ensures told { IfOk result (λ message. told.TellsFaultOfText file.now text.now fault.cause
-        (spec.body_fired fault.firing) (slice_get graph.now.nodes fault.node) message.items) }
+    ensures told { IfOk result (λ message. told.TellsFaultOfText file.now text.now graph.now.nodes
+        fault.node fault.firing fault.cause message.items) }
 {
     let tokens = tokens_of(alloc, text)?;
     let source = Source {

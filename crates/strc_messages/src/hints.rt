@@ -2,10 +2,10 @@
 
 use crate::mismatches::mismatch_hint;
 use strc_base::memory::NoMemory;
+use strc_check::site::Site;
 use strc_lex::token::{Keyword, Punctuation, TokenKind};
 use strc_places::known::Known;
 use strc_refusal::refusal::Refusal;
-use strc_refusal::refused::Refused;
 use strc_source::message::Message;
 use strc_source::nearest::nearest_name;
 use strc_source::source::Source;
@@ -15,12 +15,13 @@ use strc_source::tokens::is_mark;
 pub(crate) fn push_hint(
     message: &mut Message,
     known: Known<'_>,
-    refused: &Refused,
+    refusal: &Refusal,
+    site: Site,
 ) -> Result<(), NoMemory> {
-    match refused.refusal() {
+    match refusal {
         Refusal::UnknownName { name } => push_nearest(message, known, name.as_bytes()),
         Refusal::Parse { token } => push_words(message, syntax_hint(known.source, *token)),
-        Refusal::TypeMismatch { .. } => match refused.site().mismatch {
+        Refusal::TypeMismatch { .. } => match site.mismatch {
             Some(mismatch) => push_words(message, mismatch_hint(mismatch)),
             None => Ok(()),
         },

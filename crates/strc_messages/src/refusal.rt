@@ -18,19 +18,20 @@ use strc_check::site::Site;
 use strc_lex::error::LexError;
 use strc_lex::lexer::lex;
 use strc_lex::token::Token;
-use strc_parse::parse;
+use strc_parse::{ParseError, parse};
 use strc_places::known::Known;
 use strc_places::moved::{Moved, moved_of, rate_keyword};
 use strc_places::places::{code_of, place_of_refusal};
 use strc_refusal::placed::PlacedRefusal;
 use strc_refusal::refusal::Refusal;
-use strc_refusal::refused::Refused;
 use strc_source::counts::large_channel;
 use strc_source::message::Message;
 use strc_source::nodes::{push_channel, push_node};
 use strc_source::preorder::{Preorder, preorder_of};
 use strc_source::source::Source;
 use strc_source::stuck::push_stuck_loop;
+use strc_stream::stream::Stream;
+use strc_syntax::tree::Program;
 
 /// What a person reads of a text's refusal: the place in the file, one sentence, the source line
 /// with a mark under the place, and where it helps a hint; a line feed ends the message.
@@ -44,14 +45,14 @@ pub fn refusal_message<'a>(
     placed: &'a PlacedRefusal,
 ) -> Result<Vec<u8>, NoMemory>
     ensures message { IfOk result (λ message. IsMessage file.now text.now message.items) }
-    // It is about the statement that breaks the rule, or a name within it.
+    // It is about the part of the text that breaks the rule: of the text's tree, of the nodes of
+    // the refused stream, and of the refused graph.
     ensures told { IfOk result (λ message. told.TellsOfText file.now text.now
-        (option_map (λ m. m.now) main.entry) placed.now.refused placed.now.statement
-        message.items) }
+        (option_map (λ m. m.now) main.entry) placed.now message.items) }
 {
     let tokens = tokens_of(alloc, text)?;
-    let program = parse(alloc, &tokens).ok();
-    let nodes = nodes_of(alloc, &placed.refused)?;
+    let program = program_of(alloc, &tokens)?;
+    let nodes = nodes_of(alloc, &placed.stream)?;
     let source = Source {
         file,
         text,
@@ -63,9 +64,9 @@ pub fn refusal_message<'a>(
         source,
         program: program.as_ref(),
         nodes: nodes.as_ref(),
-        graph: placed.refused.graph(),
+        graph: placed.graph.as_ref(),
     };
-    write_message(known, placed)
+    write_at(known, &placed.refusal, site_of(known, placed))
 }
 
 /// The text's tokens; none where it has none.
@@ -79,41 +80,44 @@ pub(crate) fn tokens_of(alloc: Global, text: &[u8]) -> Result<Vec<Token>, NoMemo
     }
 }
 
+/// The tree of the text's tokens; none where they are no program's.
+fn program_of(alloc: Global, tokens: &[Token]) -> Result<Option<Program>, NoMemory>
+    ensures { IfOk result (told.IsTreeOf tokens.now) }
+{
+    match parse(alloc, tokens) {
+        Ok(program) => Ok(Some(program)),
+        Err(ParseError::NoMemory) => Err(NoMemory),
+        Err(ParseError::Parse { .. } | ParseError::Nesting) => Ok(None),
+    }
+}
+
 /// The nodes of the program's main stream, where it is known.
-fn nodes_of(alloc: Global, refused: &Refused) -> Result<Option<Preorder>, NoMemory> {
-    match refused.stream() {
+fn nodes_of(alloc: Global, stream: &Option<Stream>) -> Result<Option<Preorder>, NoMemory>
+    ensures { IfOk result (told.AreNodesOf stream.now) }
+{
+    match stream {
         Some(stream) => Ok(Some(preorder_of(alloc, stream)?)),
         None => Ok(None),
     }
 }
 
-fn write_message(known: Known<'_>, placed: &PlacedRefusal) -> Result<Vec<u8>, NoMemory>
-    ensures { IfOk result (λ message. told.TellsRefusal known.entry.source.file.now
-        known.entry.source.text.now known.entry.source.tokens.now
-        (option_map (λ m. m.now) known.entry.source.main) placed.now.refused placed.now.statement
-        message.items) }
-{
-    let site = site_of(known, placed);
-    write_at(known, &placed.refused, site)
-}
-
 /// The message of a refusal whose rule is broken at this site.
 #[tactic(auto, using(crate::proofs::Telling::two_told, crate::proofs::Telling::told_alone))]
-fn write_at(known: Known<'_>, refused: &Refused, site: Site) -> Result<Vec<u8>, NoMemory>
+fn write_at(known: Known<'_>, refusal: &Refusal, site: Site) -> Result<Vec<u8>, NoMemory>
     ensures { IfOk result (λ message. told.TellsSite known.entry.source.file.now
         known.entry.source.text.now known.entry.source.tokens.now
         (option_map (λ m. m.now) known.entry.source.main)
         (option_map (λ p. p.now) known.entry.program) (option_map (λ n. n.now) known.entry.nodes)
-        (option_map (λ g. g.now) known.entry.graph) site refused.now message.items) }
+        (option_map (λ g. g.now) known.entry.graph) site refusal.now message.items) }
 {
-    if let Some(message) = pair_message(known, refused.refusal(), site)? {
+    if let Some(message) = pair_message(known, refusal, site)? {
         return Ok(message);
     }
-    let place = place_of_refusal(known, refused.refusal(), site)?;
+    let place = place_of_refusal(known, refusal, site)?;
     let mut message = Message::new(known.alloc);
-    push_sentence(&mut message, known, refused, place)?;
+    push_sentence(&mut message, known, refusal, site, place)?;
     known.source.excerpt(&mut message, place)?;
-    push_hint(&mut message, known, refused)?;
+    push_hint(&mut message, known, refusal, site)?;
     known.source.message(known.alloc, place, message)
 }
 
@@ -121,17 +125,18 @@ fn write_at(known: Known<'_>, refused: &Refused, site: Site) -> Result<Vec<u8>, 
 fn push_sentence(
     message: &mut Message,
     known: Known<'_>,
-    refused: &Refused,
+    refusal: &Refusal,
+    site: Site,
     place: Option<Span>,
 ) -> Result<(), NoMemory> {
-    let (source, refusal) = (known.source, refused.refusal());
+    let source = known.source;
     match refusal {
         Refusal::Parse { token } => push_syntax(known.alloc, message, source, *token),
         Refusal::UnknownName { name } => {
             message.quoted(name.as_bytes())?;
             Ok(message.add(b" isn't declared here")?)
         }
-        Refusal::TypeMismatch { .. } => match refused.site().mismatch {
+        Refusal::TypeMismatch { .. } => match site.mismatch {
             Some(mismatch) => Ok(push_mismatch(message, known, mismatch, place)?),
             None => Ok(message.add(plain_sentence(source, refusal))?),
         },

@@ -1,11 +1,10 @@
 // The part of a text that breaks a rule: the statement that was refused, or a name or a token.
 
-ghost use Rattle.std.specs.Prelude.{◌≡◌, true};
+ghost use Rattle.std.specs.Prelude.{◌≡◌};
 ghost use Rattle.std.specs.Option.{option_map};
 ghost use Rattle.strc_places.specs.Parts.{declaration_at};
 ghost use Rattle.strc_source.specs.Spelling.{between};
 ghost use Rattle.strc_messages.specs.Sites as spec;
-ghost use Rattle.strc_messages.specs.Sites.{IsSiteOf};
 
 use strc_base::place::Span;
 use strc_check::site::Site;
@@ -17,14 +16,17 @@ use strc_syntax::tree::Decl;
 
 /// Where a refusal's rule is broken, and which rule of types, kinds and parts it is.
 pub(crate) fn site_of(known: Known<'_>, placed: &PlacedRefusal) -> Site
-    ensures { IsSiteOf known.entry.source.text.now known.entry.source.tokens.now
-        (option_map (λ p. p.now) known.entry.program) placed.now.refused placed.now.statement
-        result }
+    ensures { result ≡ spec.site_of known.entry.source.text.now known.entry.source.tokens.now
+        (option_map (λ p. p.now) known.entry.program) placed.now }
 {
-    let site = placed.refused.site();
-    let refusal = placed.refused.refusal();
-    let place = match placed.statement {
-        Some(statement) => Some(part_of(known, refusal, statement, site.place)),
+    let PlacedRefusal {
+        refusal,
+        site,
+        statement,
+        ..
+    } = placed;
+    let place = match statement {
+        Some(statement) => Some(part_of(known, refusal, *statement, site.place)),
         None => unread_at(known.source.tokens, refusal).or(site.place),
     };
     Site {
@@ -67,8 +69,8 @@ fn before(byte: usize) -> Span
 
 /// The place of a name that is known to break the rule; of another rule the statement.
 fn part_of(known: Known<'_>, refusal: &Refusal, statement: Span, name: Option<Span>) -> Span
-    ensures { spec.IsPart known.entry.source.text.now (option_map (λ p. p.now) known.entry.program)
-        refusal.now statement result }
+    ensures { result ≡ spec.part_of known.entry.source.text.now
+        (option_map (λ p. p.now) known.entry.program) refusal.now statement name }
 {
     match name {
         Some(name) if is_name(known, refusal, statement, name) => name,
@@ -79,7 +81,7 @@ fn part_of(known: Known<'_>, refusal: &Refusal, statement: Span, name: Option<Sp
 /// Whether a rule can be broken by what is at this place, and not by the whole statement: a name
 /// within it, or one in the head of the declaration whose own text breaks the rule.
 fn is_name(known: Known<'_>, refusal: &Refusal, statement: Span, place: Span) -> bool
-    ensures { result ≡ true → spec.IsName known.entry.source.text.now
+    ensures { result ≡ spec.is_name known.entry.source.text.now
         (option_map (λ p. p.now) known.entry.program) refusal.now statement place }
 {
     match refusal {
@@ -97,7 +99,7 @@ fn is_name(known: Known<'_>, refusal: &Refusal, statement: Span, place: Span) ->
 
 /// Whether a place is within another.
 fn is_within(inner: Span, outer: Span) -> bool
-    ensures { result ≡ true → spec.IsWithin outer inner }
+    ensures { result ≡ spec.is_within inner outer }
 {
     outer.start <= inner.start && inner.end <= outer.end
 }

@@ -208,7 +208,7 @@ run_refusal_words unrun.RoundsNeeded = codes "S5 RoundsNeeded"
 
 -- why there is no answer: a refusal of the text, of a word of its input, or of its run
 abbrev pub stop_words : Stop → List ℕ
-stop_words (stop.Refused placed) = refusal_words placed.refused
+stop_words (stop.Refused placed) = refusal_words placed.refusal
 stop_words (stop.BadInput word) = codes "S6 BadInput" ++ codes " word " ++ decimal word
 stop_words (stop.NotRun refused) = run_refusal_words refused
 

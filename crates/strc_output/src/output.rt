@@ -155,7 +155,7 @@ fn push_stop(text: &mut Vec<u8>, stop: &Stop) -> Result<(), AllocError>
     ensures { OnOk result (text.new.items ≡ text.old.items ++ spec.stop_words stop.now) }
 {
     match stop {
-        Stop::Refused(placed) => push_refusal(text, placed.refused.refusal()),
+        Stop::Refused(placed) => push_refusal(text, &placed.refusal),
         Stop::BadInput { word } => push_field(text, b"S6 BadInput", b" word ", *word),
         Stop::NotRun(refusal) => push_run_refusal(text, *refusal),
     }

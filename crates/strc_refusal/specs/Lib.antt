@@ -1,3 +1,4 @@
+pub mod Placing
 pub mod Reports
 pub mod Sentences
 pub mod Tapes

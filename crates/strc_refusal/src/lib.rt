@@ -10,6 +10,5 @@
 pub mod outcome;
 pub mod placed;
 pub mod refusal;
-pub mod refused;
 pub mod run_refusal;
 mod sentence;

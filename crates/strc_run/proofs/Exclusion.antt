@@ -43,7 +43,8 @@ same_stream result stream other first second =
     let both : ◌≡◌ {A = Result Stream ElabError} (Ok stream) (Ok other) = sym first ∙ second in cc
 
 -- a stream whose flat graph can be run isn't one whose flat graph can't
-runs_or_not : (stream : Stream) (refused : Refusal) → CanRun stream → CannotRun stream refused → ⊥
+pub runs_or_not : (stream : Stream) (refused : Refusal) → CanRun stream
+    → CannotRun stream refused → ⊥
 runs_or_not stream refusal.NodeLimit runs cannot = let few = runs.few in omega arith
 runs_or_not stream refusal.TwoInputs runs cannot = let one = runs.one_input in let more =
     cannot.1 in

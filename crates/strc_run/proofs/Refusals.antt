@@ -1,5 +1,5 @@
 -- What is answered for a text holds by the definitions.
-use Rattle.std.proofs.Common.{◌≡◌, refl, sym, subst, List, [], ◌∷◌, ℕ, ◌+◌, Result}
+use Rattle.std.proofs.Common.{◌≡◌, refl, sym, ap, ◌∙◌, subst, List, [], ◌∷◌, ℕ, ◌+◌, Result}
 use Rattle.std.proofs.Common.{Ok, Err, inl, inr}
 use Rattle.std.specs.Prelude.{Bool, true, false}
 use Rattle.std.specs.Result.{IsErrAnd}
@@ -29,10 +29,12 @@ use Rattle.strc_statements.specs.declared.error.ElabErrorKind.TheVariants as err
 use Rattle.strc_schedule.specs.Schedules.{ScheduleParts}
 use Rattle.strc_stage.specs.Plans.{HasSchedule, HasStartup, IsDeadlocked, IsUnbounded, Overflows}
 use Rattle.strc_stage.specs.Plans.{PlanParts}
+use Rattle.strc_refusal.specs.declared.placed.PlacedRefusal.{PlacedRefusal}
 use Rattle.strc_refusal.specs.declared.refusal.Refusal.{Refusal}
 use Rattle.strc_refusal.specs.declared.refusal.Refusal.TheVariants as refusal
 use Rattle.strc_run.specs.Accepts.{CanRun, round_counts}
 use Rattle.strc_run.specs.Choices.{Choice}
+use Rattle.strc_run.specs.Located.{HasPlacedPlan}
 use Rattle.strc_run.specs.Plans.{HasPlan, IsPlanOf}
 use Rattle.strc_run.specs.Refuses.{Breaks, HasNoBalance, IsTrueOf, IsReadRefusal}
 use Rattle.strc_run.specs.Refuses.{IsUntransformed}
@@ -207,13 +209,14 @@ pub which_deadlock : (graph : Graph) (startup round : List ℕ) (broken : Schedu
 which_deadlock graph startup round broken first later true is = first is
 which_deadlock graph startup round broken first later false is = later is
 
--- the refusal that is reported
-pub refusal_reported : (text : List ℕ) (choice : Choice) (result : Result PlanParts Refusal)
-    (refused : Refusal) → IsErrAnd result (λ found. found ≡ refused) → IsTrueOf text choice refused
-    → HasPlan text choice result
-refusal_reported text choice (Ok plan) refused reported is = absurd reported
-refusal_reported text choice (Err found) refused reported is =
-    subst (IsTrueOf text choice) (sym reported) is
+-- a refusal that is passed on
+pub refusal_passed : (text : List ℕ) (choice : Choice) (result : Result PlanParts PlacedRefusal)
+    (placed : PlacedRefusal) (refused : Refusal) → IsErrAnd result (λ found. found ≡ placed)
+    → placed.refusal ≡ refused → IsTrueOf text choice refused → HasPlacedPlan text choice result
+refusal_passed text choice (Ok plan) placed refused passed same is = absurd passed
+refusal_passed text choice (Err found) placed refused passed same is =
+    subst (IsTrueOf text choice)
+    (sym (ap (λ (p : PlacedRefusal). p.refusal) passed ∙ same)) is
 
 -- a refusal that is told with its place
 pub refusal_told : (text : List ℕ) (choice : Choice) (found refused : Refusal) → found ≡ refused

@@ -1,6 +1,8 @@
 -- Where a text is refused: at the statement that its program's elaboration was in, which is where
--- the tokens of the text spell it.
-use Rattle.std.specs.Prelude.{◌≡◌, ℕ, List, Option, None, Result, Ok, Err}
+-- the tokens of the text spell it; or in its stream, and in its flat graph.
+use Rattle.std.specs.Prelude.{◌≡◌, ◌≢◌, ℕ, is_some, true, List, Option, Some, None, IfSome}
+use Rattle.std.specs.Prelude.{Result, Ok, Err}
+use Rattle.std.specs.Option.{option_map}
 use Rattle.strc_base.specs.declared.place.Span.{Span}
 use Rattle.strc_lex.specs.declared.token.Token.{Token}
 use Rattle.strc_syntax.specs.View.{program_view}
@@ -11,15 +13,19 @@ use Rattle.strc_parse.specs.Texts.{HasTokens}
 use Rattle.strc_statements.specs.declared.error.ElabError.{ElabError}
 use Rattle.strc_elab.specs.Elaboration.{elaborated}
 use Rattle.strc_elab.specs.Places.{program_place}
+use Rattle.strc_graph.specs.NodeView.{graph_view}
+use Rattle.strc_stream.specs.Flattening.{IsFlat}
 use Rattle.strc_stream.specs.Instances.{Stream}
 use Rattle.strc_stream.specs.View.{stream_view}
 use Rattle.strc_stream.specs.declared.stream.Stream as declared
 use Rattle.strc_statements.specs.Answers.{IsRefusal}
+use Rattle.strc_refusal.specs.Placing.{unplaced}
 use Rattle.strc_refusal.specs.Reports.{refusal_of}
 use Rattle.strc_stage.specs.Plans.{PlanParts}
 use Rattle.strc_refusal.specs.declared.refusal.Refusal.{Refusal}
 use Rattle.strc_refusal.specs.declared.refusal.Refusal.TheVariants as refusal
 use Rattle.strc_refusal.specs.declared.placed.PlacedRefusal.{PlacedRefusal}
+use Rattle.strc_run.specs.Accepts.{CanRun}
 use Rattle.strc_run.specs.Choices.{Choice}
 use Rattle.strc_run.specs.Plans.{HasPlan}
 use Rattle.strc_run.specs.Refuses.{IsReadRefusal}
@@ -32,42 +38,46 @@ pub record IsRead (text : List ℕ) (program : Program) : Type 0 where
   pub placed : IsProgramPlaced tokens program
 
 -- an answer is the stream that was elaborated, or the refusal of the elaboration
-abbrev pub IsMainStream : Result Stream ElabError → Result declared.Stream Refusal → Type 0
+abbrev pub IsMainStream : Result Stream ElabError → Result declared.Stream PlacedRefusal → Type 0
 IsMainStream outcome (Ok stream) = outcome ≡ Ok (stream_view stream)
-IsMainStream outcome (Err refused) =
-    (broken : ElabError) × IsRefusal outcome broken × (refused ≡ refusal_of broken)
+IsMainStream outcome (Err placed) =
+    (broken : ElabError) × IsRefusal outcome broken × (placed.refusal ≡ refusal_of broken)
 
--- the statement of a refusal: that of the elaboration, if this is what refused, else none
-abbrev pub IsStatementOf : Result Stream ElabError → (place found : Option Span) → Type 0
-IsStatementOf (Ok stream) place found = found ≡ None
-IsStatementOf (Err broken) place found = found ≡ place
+-- of a refusal of the elaboration its statement is known
+pub record KnowsStatement (place : Option Span) (placed : PlacedRefusal) : Type 0 where
+  pub statement : placed.statement ≡ place
+  pub stream : placed.stream ≡ None
+  pub graph : placed.graph ≡ None
 
--- the statement of an answer's refusal; out of memory has any
-abbrev pub TellsStatement : {A : Type 0} → Result Stream ElabError → (place : Option Span)
-    → Result A Refusal → (found : Option Span) → Type 0
-TellsStatement outcome place (Ok plan) found = Unit {0}
-TellsStatement outcome place (Err refusal.NoMemory) found = Unit {0}
-TellsStatement outcome place (Err refused) found = IsStatementOf outcome place found
+-- of a refusal that comes after it the stream, and its flat graph, if it can be run
+pub record KnowsStream (main : Stream) (placed : PlacedRefusal) : Type 0 where
+  pub statement : placed.statement ≡ None
+  pub stream : option_map stream_view placed.stream ≡ Some main
+  pub graph : IfSome placed.graph (λ flat. IsFlat main (graph_view flat))
+  pub whole : CanRun main → is_some placed.graph ≡ true
 
--- a program's refusal is at its statement
-abbrev pub IsAtStatement : {A : Type 0} → Program → (main : Option (List ℕ)) → Result A Refusal
-    → (found : Option Span) → Type 0
-IsAtStatement program main = TellsStatement (elaborated (program_view program) main)
-    (program_place program.declarations.items main)
+-- what is known of a refusal, by how the elaboration ended, and at which statement
+abbrev pub Knows : Result Stream ElabError → (place : Option Span) → PlacedRefusal → Type 0
+Knows (Ok stream) place placed = KnowsStream stream placed
+Knows (Err broken) place placed = KnowsStatement place placed
 
--- a text's refusal is at its statement: of a text that can't be read there is none
-pub data IsLocated (text : List ℕ) (choice : Choice) (refused : Refusal) (statement : Option Span) :
-    Type 0
-  where
-    Unread : IsReadRefusal text refused → statement ≡ None → IsLocated text choice refused statement
-    InProgram : (program : Program) → IsRead text program
-        → IsAtStatement {A = PlanParts} program choice.main (Err refused) statement
-        → IsLocated text choice refused statement
+-- what is known of a program's refusal; nothing is said of out of memory
+abbrev pub IsKnownOf : Program → (main : Option (List ℕ)) → PlacedRefusal → Type 0
+IsKnownOf program main placed = placed.refusal ≢ refusal.NoMemory
+    → Knows (elaborated (program_view program) main)
+    (program_place program.declarations.items main) placed
 
--- an answer's refusal, without its statement
+-- what is known of a text's refusal: nothing of a text that can't be read
+pub data IsLocated (text : List ℕ) (choice : Choice) (placed : PlacedRefusal) : Type 0 where
+  Unread : IsReadRefusal text placed.refusal → placed ≡ unplaced placed.refusal
+      → IsLocated text choice placed
+  InProgram : (program : Program) → IsRead text program → IsKnownOf program choice.main placed
+      → IsLocated text choice placed
+
+-- an answer's refusal, without where it is
 abbrev pub refusal_in : {A : Type 0} → Result A PlacedRefusal → Result A Refusal
 refusal_in (Ok plan) = Ok plan
-refusal_in (Err placed) = Err placed.refused
+refusal_in (Err placed) = Err placed.refusal
 
 -- an answer is the text's plan, or the refusal that holds
 abbrev pub HasPlacedPlan : List ℕ → Choice → Result PlanParts PlacedRefusal → Type 0

@@ -1,12 +1,12 @@
 // From the text to the plan, or the first refusal.
 
-ghost use Rattle.std.specs.Prelude.{◌≡◌, ℕ, List, None, Err, IfOk, IfErr, OnOk};
+ghost use Rattle.std.specs.Prelude.{◌≡◌, ℕ, List, Err, IfOk, IfErr};
 ghost use Rattle.std.specs.Option.{option_map};
 ghost use Rattle.strc_syntax.specs.View.{program_view};
 ghost use Rattle.strc_parse.specs.Texts.{Spells};
 ghost use Rattle.strc_run.specs.Choices.{choice_of};
-ghost use Rattle.strc_run.specs.Located.{HasPlacedPlan, IsAtStatement, IsLocated, IsRead};
-ghost use Rattle.strc_run.specs.Located.{IsMainStream, refusal_in};
+ghost use Rattle.strc_run.specs.Located.{HasPlacedPlan, IsKnownOf, IsLocated, IsMainStream, IsRead};
+ghost use Rattle.strc_run.specs.Located.{refusal_in};
 ghost use Rattle.strc_elab.specs.Elaboration.{elaborated};
 ghost use Rattle.strc_elab.specs.Sound.{IsElaborated};
 ghost use Rattle.strc_stream.specs.View.{stream_view};
@@ -21,7 +21,6 @@ use crate::refusal::Refusal;
 use crate::transforming::transformed;
 use std::alloc::Global;
 use strc_balance::balance::balance;
-use strc_base::place::Span;
 use strc_elab::elaborate::{elaborate, elaborate_placed};
 use strc_flatten::flatten::flatten;
 use strc_fuse::laws::schedules_can_be_fused;
@@ -29,7 +28,6 @@ use strc_lex::error::LexError;
 use strc_lex::lexer::lex;
 use strc_parse::{ParseError, parse};
 use strc_refusal::placed::PlacedRefusal;
-use strc_refusal::refused::Refused;
 use strc_schedule::planning::schedule;
 pub use strc_stage::plan::Plan;
 use strc_startup::startup::startup;
@@ -47,7 +45,7 @@ pub fn compile(alloc: Global, text: &[u8], options: &Options) -> Result<Plan, Re
 {
     match compile_or_where(alloc, text, options) {
         Ok(plan) => Ok(plan),
-        Err(placed) => Err(placed.refused.into_refusal()),
+        Err(placed) => Err(placed.into_refusal()),
     }
 }
 
@@ -65,25 +63,13 @@ pub fn compile_or_where(
     // No positive counts balance a graph that is answered to be inconsistent.
     ensures inconsistent { (channel : ℕ) → refusal_in result ≡ Err (refused.Inconsistent channel)
         → HasNoBalance text.now (choice_of options.now) }
-    // The statement is that of the elaboration, where the tokens of the text spell it.
-    ensures located { IfErr result (λ placed. IsLocated text.now (choice_of options.now)
-        placed.refused placed.statement) }
+    // The statement is that of the elaboration, where the tokens of the text spell it; stream and
+    // graph are the program's.
+    ensures located { IfErr result (IsLocated text.now (choice_of options.now)) }
 {
-    let mut statement = None;
-    match read_program(alloc, text) {
-        Ok(program) => match compile_program(
-            alloc,
-            &program,
-            options.main_name(),
-            options.ways,
-            options.fuse,
-            &mut statement,
-        ) {
-            Ok(plan) => Ok(plan),
-            Err(refused) => Err(PlacedRefusal { refused, statement }),
-        },
-        Err(refusal) => Err(PlacedRefusal::from(refusal)),
-    }
+    let program = read_program(alloc, text)?;
+    let main = options.main_name();
+    compile_program(alloc, &program, main, options.ways, options.fuse)
 }
 
 /// The main stream of a text, without its graph; or the refusal of the first rule that is broken on
@@ -99,77 +85,66 @@ pub fn stream_of(alloc: Global, text: &[u8], options: &Options) -> Result<Stream
     }
 }
 
-// The plan of a program that was read, of whatever text spells it; and the statement that refuses
-// it, if its elaboration does.
-#[tactic(auto, using(crate::proofs::Located::after_elaboration))]
+// The plan of a program that was read, of whatever text spells it; or the refusal, with what is
+// known of the program.
 fn compile_program(
     alloc: Global,
     program: &Program,
     main: Option<&str>,
     ways: u32,
     fuse: u32,
-    statement: &mut Option<Span>,
-) -> Result<Plan, Refused>
-    requires { statement.old ≡ None }
+) -> Result<Plan, PlacedRefusal>
     ensures plan { (text : List ℕ) → Spells text (program_view program.now)
-        → HasPlan text (record
+        → HasPlacedPlan text (record
         { main = option_map (λ n. n.now) main.entry; ways = ways; fuse = fuse }) result }
-    ensures statement { IsAtStatement program.now (option_map (λ n. n.now) main.entry) result
-        statement.new }
+    ensures known { IfErr result (IsKnownOf program.now (option_map (λ n. n.now) main.entry)) }
 {
     // The nodes of a stream move items, which their rates stand on.
     nodes_deal();
     // A greedy schedule can be fused.
     schedules_can_be_fused();
-    let stream = main_stream(alloc, program, main, statement)?;
+    let stream = main_stream(alloc, program, main)?;
     let graph = match flatten(alloc, &stream) {
         Ok(graph) => graph,
-        Err(error) => return Err(Refused::from(error).of_stream(stream)),
+        Err(error) => return Err(PlacedRefusal::of_stream(error, stream)),
     };
     if let Err(refusal) = check_rates(alloc, graph.nodes()) {
-        return Err(Refused::of_graph(refusal, stream, graph));
+        return Err(PlacedRefusal::of_graph(refusal, stream, graph));
     }
     let round_counts = match balance(alloc, &graph) {
         Ok(counts) => counts,
-        Err(error) => return Err(Refused::of_graph(Refusal::from(error), stream, graph)),
+        Err(error) => return Err(PlacedRefusal::of_graph(Refusal::from(error), stream, graph)),
     };
     let startup_counts = match startup(alloc, &graph, &round_counts) {
         Ok(counts) => counts,
-        Err(error) => return Err(Refused::of_graph(Refusal::from(error), stream, graph)),
+        Err(error) => return Err(PlacedRefusal::of_graph(Refusal::from(error), stream, graph)),
     };
     let schedule = match schedule(alloc, &graph, &startup_counts, &round_counts) {
         Ok(schedule) => schedule,
-        Err(error) => return Err(Refused::of_graph(Refusal::from(error), stream, graph)),
+        Err(error) => return Err(PlacedRefusal::of_graph(Refusal::from(error), stream, graph)),
     };
     let split = match transformed(alloc, &graph, &round_counts, &schedule, ways, fuse) {
         Ok(split) => split,
-        Err(refusal) => return Err(Refused::of_graph(refusal, stream, graph)),
+        Err(refusal) => return Err(PlacedRefusal::of_graph(refusal, stream, graph)),
     };
     let plan = Plan::new(alloc, graph, startup_counts, round_counts, schedule, split)?;
     Ok(plan)
 }
 
-// The main stream of a program; and the statement that refuses it.
-#[tactic(auto, using(crate::proofs::Located::in_elaboration))]
+// The main stream of a program; or the refusal, at the statement that it was in.
 fn main_stream(
     alloc: Global,
     program: &Program,
     main: Option<&str>,
-    statement: &mut Option<Span>,
-) -> Result<Stream, Refused>
+) -> Result<Stream, PlacedRefusal>
     ensures verdict { IsMainStream (elaborated (program_view program.now)
         (option_map (λ n. n.now) main.entry)) result }
     ensures sound { IfOk result (λ stream. IsElaborated (stream_view stream)) }
-    ensures kept { OnOk result (statement.new ≡ statement.old) }
-    ensures statement { IsAtStatement program.now (option_map (λ n. n.now) main.entry) result
-        statement.new }
+    ensures known { IfErr result (IsKnownOf program.now (option_map (λ n. n.now) main.entry)) }
 {
     match elaborate_placed(alloc, program, main) {
         Ok(stream) => Ok(stream),
-        Err(placed) => {
-            *statement = placed.place;
-            Err(Refused::from(placed.error))
-        }
+        Err(placed) => Err(PlacedRefusal::at(placed.error, placed.place)),
     }
 }
 

@@ -68,9 +68,8 @@ returns-in-Run-clause-unread g c =
 
 pub returns-in-Err-clause-located : goal.returns-in-Err-clause-located
 returns-in-Err-clause-located g c =
-    let placed = c.in-Err.placed in
     subst
-    (λ (choice : Choice). IsLocated c.args.text.now choice placed.refused placed.statement)
+    (λ (choice : Choice). IsLocated c.args.text.now choice c.in-Err.placed)
     (same_choice _ _ c.in-Ok.ensures.main c.in-Ok.ensures.ways c.in-Ok.ensures.fuse)
     c.in-Err.ensures.located
 

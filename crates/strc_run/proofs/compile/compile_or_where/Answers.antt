@@ -1,20 +1,35 @@
-use Rattle.std.proofs.Common.{ℕ, List, Option, Err, subst}
-use Rattle.strc_stage.specs.Plans.{PlanParts}
-use Rattle.strc_run.specs.Located.{IsAtStatement, IsLocated}
-use Rattle.strc_run.specs.Plans.{IsPlanOf}
+use Rattle.std.proofs.Common.{refl, ℕ, List, Option, IfErr, subst}
+use Rattle.strc_refusal.specs.Placing.{unplaced}
+use Rattle.strc_run.specs.Choices.{choice_of}
+use Rattle.strc_run.specs.Located.{HasPlacedPlan, IsKnownOf, IsLocated}
+use Rattle.strc_run.proofs.Located.{in_program, passed_on}
+use Rattle.strc_run.proofs.Refusals.{read_refused, refusal_passed}
 use Rattle.strc_run.proofs.compile.compile_or_where.Goals as goal
 
-pub returns-in-Ok-compile_program-clause-plan : goal.returns-in-Ok-compile_program-clause-plan
-returns-in-Ok-compile_program-clause-plan c =
-    let options = c.args.options.now in
-    subst (λ (main : Option (List ℕ)). IsPlanOf c.args.text.now
-    (record { main = main; ways = options.ways; fuse = options.fuse })
-    c.in-Ok-compile_program.plan) c.main_name.ensures
-    (c.in-Ok-compile_program.ensures.plan c.args.text.now c.in-Ok.ensures.read)
+pub returns-in_err-program-clause-plan : goal.returns-in_err-program-clause-plan
+returns-in_err-program-clause-plan c =
+    let refused = c.in_err-program.field-0.0 in
+    refusal_passed c.args.text.now _ c.from_residual.result (unplaced refused) refused
+    c.from_residual.ensures.1 refl (read_refused _ _ refused c.in_err-program.ensures.refused)
 
-pub returns-in-Ok-clause-located : goal.returns-in-Ok-clause-located
-returns-in-Ok-clause-located c =
-    IsLocated.InProgram c.in-Ok.program c.in-Ok.ensures.placed
-    (subst (λ (main : Option (List ℕ)). IsAtStatement {A = PlanParts} c.in-Ok.program main
-    (Err c.in-Err-compile_program.refused) c.compile_program.new.statement) c.main_name.ensures
-    c.in-Err-compile_program.ensures.statement)
+pub returns-in_err-program-clause-located : goal.returns-in_err-program-clause-located
+returns-in_err-program-clause-located c = passed_on
+    (IsLocated c.args.text.now (choice_of c.args.options.now)) c.from_residual.result
+    (unplaced c.in_err-program.field-0.0) c.from_residual.ensures.1
+    (IsLocated.Unread c.in_err-program.ensures.refused refl)
+
+pub returns-clause-plan : goal.returns-clause-plan
+returns-clause-plan c =
+    let options = c.args.options.now in
+    subst (λ (main : Option (List ℕ)). HasPlacedPlan c.args.text.now
+    (record { main = main; ways = options.ways; fuse = options.fuse }) c.compile_program.result)
+    c.main_name-main.ensures
+    (c.compile_program.ensures.plan c.args.text.now c.in_ok-program.ensures.read)
+
+pub returns-clause-located : goal.returns-clause-located
+returns-clause-located c =
+    let program = c.in_ok-program.program in
+    in_program c.args.text.now (choice_of c.args.options.now) program
+    c.in_ok-program.ensures.placed c.compile_program.result
+    (subst (λ (main : Option (List ℕ)). IfErr c.compile_program.result (IsKnownOf program main))
+    c.main_name-main.ensures c.compile_program.ensures.known)

@@ -1,17 +1,21 @@
-use Rattle.std.proofs.Common.{◌≡◌, List, map, sym, ap, ◌∙◌, subst, Err, arith}
-use Rattle.std.specs.Result.{IsErrAnd}
+use Rattle.std.proofs.Common.{refl, List, map, sym, ap, ◌∙◌, subst, Err, arith}
+use Rattle.std.specs.Option.{option_map}
+use Rattle.strc_refusal.specs.Placing.{unplaced}
+use Rattle.strc_refusal.specs.declared.refusal.Refusal.TheVariants.{NoMemory}
 use Rattle.strc_refusal.specs.declared.refusal.Refusal.{Refusal}
 use Rattle.std.specs.List.{AllByRecursion}
 use Rattle.strc_graph.specs.Graphs.{NodeCode}
 use Rattle.strc_stream.specs.View.{stream_view}
 use Rattle.strc_graph.specs.NodeView.{node_view, graph_view}
+use Rattle.strc_run.specs.Located.{IsKnownOf}
 use Rattle.strc_run.specs.Rates.{rates_checked}
+use Rattle.strc_run.proofs.Located.{in_flattening, in_graph, passed_on, same_refusal}
 use Rattle.strc_refusal.specs.Reports.{refusal_of, balance_refusal_of, startup_refusal_of}
 use Rattle.strc_refusal.specs.Reports.{schedule_refusal_of}
 use Rattle.strc_run.specs.Verdicts.{IsRefusal}
 use Rattle.strc_run.proofs.Refusals.{elaboration_refused, graph_refused, rates_refused}
 use Rattle.strc_run.proofs.Refusals.{balance_refused, startup_refused, schedule_refused}
-use Rattle.strc_run.proofs.Refusals.{plan_reported, refusal_reported, transformation_refused}
+use Rattle.strc_run.proofs.Refusals.{plan_reported, refusal_passed, transformation_refused}
 use Rattle.strc_run.proofs.Refusals.{refusal_told, which_deadlock}
 use Rattle.strc_run.proofs.RatedGraphs.{IsChecked, flat_is_rated, stream_checked}
 use Rattle.strc_balance.specs.Balance.{count_at}
@@ -21,17 +25,21 @@ use Rattle.strc_run.proofs.compile.compile_program.Goals as goal
 pub returns-in_err-stream-clause-plan : goal.returns-in_err-stream-clause-plan
 returns-in_err-stream-clause-plan c = λ text spells.
     let broken = c.in_err-stream.ensures.verdict in
-    refusal_reported _ _ c.from_residual.result (refusal_of broken.0)
-    (subst (λ (r : Refusal). IsErrAnd c.from_residual.result (λ found. found ≡ r)) broken.2
-    c.from_residual.ensures.1)
-    (elaboration_refused _ _ _ spells broken.0 broken.1)
+    refusal_passed _ _ c.from_residual.result c.in_err-stream.field-0.0 (refusal_of broken.0)
+    c.from_residual.ensures.1 broken.2 (elaboration_refused _ _ _ spells broken.0 broken.1)
+
+pub returns-in_err-stream-clause-known : goal.returns-in_err-stream-clause-known
+returns-in_err-stream-clause-known c = passed_on
+    (IsKnownOf c.args.program.now (option_map (λ n. n.now) c.args.main))
+    c.from_residual.result c.in_err-stream.field-0.0 c.from_residual.ensures.1
+    c.in_err-stream.ensures.known
 
 pub returns-in-Err-clause-plan : goal.returns-in-Err-clause-plan
 returns-in-Err-clause-plan c = λ text spells.
     let elaborates = c.in_ok-stream.ensures.verdict in
     let sound = c.in_ok-stream.ensures.sound in
     refusal_told _ _ _
-    (refusal_of c.in-Err.error) (c.of_stream.ensures ∙ c.from.ensures)
+    (refusal_of c.in-Err.error) (same_refusal c.of_stream.ensures)
     (graph_refused _ _ _ spells _ elaborates c.in-Err.error
     (c.in-Err.ensures.verdict sound.closed.typed))
 
@@ -41,7 +49,7 @@ returns-in-Err-check_rates-clause-plan c = λ text spells.
     let sound = c.in_ok-stream.ensures.sound in
     let same = ap (map node_view) c.nodes.ensures ∙ c.in-Ok.ensures.nodes in
     refusal_told _ _ _ c.in-Err-check_rates.refusal
-    (c.of_graph.ensures)
+    (same_refusal c.of_graph.ensures)
     (rates_refused _ _ _ spells (stream_view c.in_ok-stream.stream) elaborates
     c.in-Err-check_rates.refusal
     (c.in-Ok.ensures.verdict sound.closed.typed)
@@ -70,7 +78,7 @@ returns-in-Err-balance-clause-plan c = λ text spells.
     ∙ c.in_default.ensures in
     refusal_told _ _ _
     (balance_refusal_of c.in-Err-balance.error)
-    (c.of_graph-in-Err-balance.ensures ∙ c.from-in-Err-balance.ensures)
+    (same_refusal c.of_graph-in-Err-balance.ensures ∙ c.from.ensures)
     (balance_refused _ _ _ spells (stream_view c.in_ok-stream.stream) elaborates
     (graph_view c.in-Ok.graph)
     (c.in-Ok.ensures.verdict sound.closed.typed) rates
@@ -95,7 +103,7 @@ returns-in-Err-startup-clause-plan c = λ text spells.
     ∙ c.in_default.ensures in
     refusal_told _ _ _
     (startup_refusal_of c.in-Err-startup.error)
-    (c.of_graph-in-Err-startup.ensures ∙ c.from-in-Err-startup.ensures)
+    (same_refusal c.of_graph-in-Err-startup.ensures ∙ c.from-in-Err-startup.ensures)
     (startup_refused _ _ _ spells (stream_view c.in_ok-stream.stream) elaborates
     (graph_view c.in-Ok.graph)
     (c.in-Ok.ensures.verdict sound.closed.typed) rates
@@ -129,7 +137,7 @@ returns-in-Err-schedule-clause-plan c = λ text spells.
     let broken = c.in-Err-schedule.error in
     let reported = c.in-Err-schedule.ensures in
     refusal_told _ _ _ (schedule_refusal_of broken)
-    (c.of_graph-in-Err-schedule.ensures ∙ c.from-in-Err-schedule.ensures)
+    (same_refusal c.of_graph-in-Err-schedule.ensures ∙ c.from-in-Err-schedule.ensures)
     (schedule_refused _ _ _ spells (stream_view c.in_ok-stream.stream) elaborates graph
     (c.in-Ok.ensures.verdict sound.closed.typed) rates
     (c.in-Ok.ensures.graph sound.closed.typed) counts
@@ -159,7 +167,7 @@ returns-in-Err-transformed-clause-plan c = λ text spells.
     ∙ c.in_default.ensures in
     let broken = c.in-Err-transformed.refusal in
     refusal_told _ _ _ broken
-    (c.of_graph-in-Err-transformed.ensures)
+    (same_refusal c.of_graph-in-Err-transformed.ensures)
     (transformation_refused _ _ _ spells (stream_view c.in_ok-stream.stream) elaborates
     (graph_view c.in-Ok.graph)
     (c.in-Ok.ensures.verdict sound.closed.typed) rates
@@ -246,3 +254,56 @@ returns-clause-plan c = λ text spells.
       whole = c.in-Ok.ensures.program sound.closed;
       nodes = nodes;
     })
+
+pub returns-in-Err-clause-known : goal.returns-in-Err-clause-known
+returns-in-Err-clause-known c =
+    let stream = c.in_ok-stream.stream in
+    in_flattening _ _ c.of_stream.result stream c.in_ok-stream.ensures.verdict c.in-Err.error
+    c.of_stream.result.site c.of_stream.ensures
+    (c.in-Err.ensures.verdict c.in_ok-stream.ensures.sound.closed.typed)
+
+pub returns-in-Err-check_rates-clause-known : goal.returns-in-Err-check_rates-clause-known
+returns-in-Err-check_rates-clause-known c = λ some.
+    in_graph _ _ c.of_graph.result c.in_ok-stream.stream
+    c.in_ok-stream.ensures.verdict c.in-Err-check_rates.refusal c.in-Ok.graph
+    c.of_graph.ensures
+    (c.in-Ok.ensures.graph c.in_ok-stream.ensures.sound.closed.typed)
+
+pub returns-in-Err-balance-clause-known : goal.returns-in-Err-balance-clause-known
+returns-in-Err-balance-clause-known c = λ some.
+    in_graph _ _ c.of_graph-in-Err-balance.result c.in_ok-stream.stream
+    c.in_ok-stream.ensures.verdict c.from.result c.in-Ok.graph
+    c.of_graph-in-Err-balance.ensures
+    (c.in-Ok.ensures.graph c.in_ok-stream.ensures.sound.closed.typed)
+
+pub returns-in-Err-startup-clause-known : goal.returns-in-Err-startup-clause-known
+returns-in-Err-startup-clause-known c = λ some.
+    in_graph _ _ c.of_graph-in-Err-startup.result c.in_ok-stream.stream
+    c.in_ok-stream.ensures.verdict c.from-in-Err-startup.result c.in-Ok.graph
+    c.of_graph-in-Err-startup.ensures
+    (c.in-Ok.ensures.graph c.in_ok-stream.ensures.sound.closed.typed)
+
+pub returns-in-Err-schedule-clause-known : goal.returns-in-Err-schedule-clause-known
+returns-in-Err-schedule-clause-known c = λ some.
+    in_graph _ _ c.of_graph-in-Err-schedule.result c.in_ok-stream.stream
+    c.in_ok-stream.ensures.verdict c.from-in-Err-schedule.result c.in-Ok.graph
+    c.of_graph-in-Err-schedule.ensures
+    (c.in-Ok.ensures.graph c.in_ok-stream.ensures.sound.closed.typed)
+
+pub returns-in-Err-transformed-clause-known : goal.returns-in-Err-transformed-clause-known
+returns-in-Err-transformed-clause-known c = λ some.
+    in_graph _ _ c.of_graph-in-Err-transformed.result c.in_ok-stream.stream
+    c.in_ok-stream.ensures.verdict c.in-Err-transformed.refusal c.in-Ok.graph
+    c.of_graph-in-Err-transformed.ensures
+    (c.in-Ok.ensures.graph c.in_ok-stream.ensures.sound.closed.typed)
+
+pub returns-in_err-plan-clause-plan : goal.returns-in_err-plan-clause-plan
+returns-in_err-plan-clause-plan c = λ text spells.
+    refusal_passed _ _ c.from_residual-in_err-plan.result (unplaced NoMemory) NoMemory
+    c.from_residual-in_err-plan.ensures.1 refl tt
+
+pub returns-in_err-plan-clause-known : goal.returns-in_err-plan-clause-known
+returns-in_err-plan-clause-known c = passed_on
+    (IsKnownOf c.args.program.now (option_map (λ n. n.now) c.args.main))
+    c.from_residual-in_err-plan.result (unplaced NoMemory) c.from_residual-in_err-plan.ensures.1
+    (λ some. absurd (some refl))
