@@ -2,7 +2,7 @@
 // Gives what a person reads of it: the place in the file, one sentence, the source line with a
 // mark, and where it helps a hint.
 // The theorems to rely on: `refusal_message`, `fault_message`: a message begins with its file and
-// the place of the part that it is about: of a refusal its statement, or a name within that.
+// the place of the part that it is about, by the text's own tree, stream and graph.
 // Stands on strc_places, which finds the place, on strc_source, which builds messages and tells of
 // the nodes of a stream, on strc_refusal, whose refusals and rounds it tells of, on
 // strc_statements, which says what can be the main stream, and on strc_check, whose rules are
