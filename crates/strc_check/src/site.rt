@@ -1,5 +1,5 @@
 // Which part of a text breaks a rule, and which rule that is. It is for the messages that people
-// read: contracts see nothing of it.
+// read: no contract says that it is the one.
 
 use strc_base::place::Span;
 use strc_semantics::types::ValueType;
