@@ -1,73 +1,28 @@
 -- Which calls a text has.
 use Rattle.std.proofs.Common.{◌≡◌, refl, sym, ◌∙◌, ap, ℕ, Bool, true, false, ◌||◌, List, [], ◌∷◌}
-use Rattle.std.proofs.Common.{◌++◌, Option, Some, None}
+use Rattle.std.proofs.Common.{◌++◌, Option, Some, None, ◌⊎◌, inl, inr, ⊎_elim}
+use Rattle.std.specs.Prelude.{bytes_eq}
+use Rattle.std.proofs.lemmas.Slice.Eq.{bytes_eq-Decides}
+use Rattle.strc_base.specs.Names.{has_name}
 use Rattle.strc_syntax.specs.Tree as tree
 use Rattle.strc_interval.specs.Calls.{expr_calls_one, arguments_call_one, option_calls_one}
 use Rattle.strc_interval.specs.Calls.{variables_call_one, stmt_calls_one, stmts_call_one}
-
--- ---- the functions that a text calls, in order
-
-abbrev mutual
-  pub called_in_expr : tree.Expr → List (List ℕ)
-  called_in_expr (tree.Number value) = []
-  called_in_expr (tree.Truth value) = []
-  called_in_expr (tree.Read read) = []
-  called_in_expr (tree.Element array index) = called_in_expr index
-  called_in_expr tree.Pop = []
-  called_in_expr (tree.Peek index) = called_in_expr index
-  called_in_expr (tree.Call called arguments) = called ∷ called_in_arguments arguments
-  called_in_expr (tree.Group inner) = called_in_expr inner
-  called_in_expr (tree.Unary operator operand) = called_in_expr operand
-  called_in_expr (tree.Step operator stepped) = []
-  called_in_expr (tree.StepElement operator array index) = called_in_expr index
-  called_in_expr (tree.Binary operator left right) = called_in_expr left ++ called_in_expr right
-  called_in_expr (tree.Conditional condition chosen other) =
-      called_in_expr condition ++ (called_in_expr chosen ++ called_in_expr other)
-
-  pub called_in_arguments : tree.Arguments → List (List ℕ)
-  called_in_arguments tree.NoArgument = []
-  called_in_arguments (tree.Argument first rest) =
-      called_in_expr first ++ called_in_arguments rest
-
-abbrev pub called_in_option : Option tree.Expr → List (List ℕ)
-called_in_option None = []
-called_in_option (Some value) = called_in_expr value
-
-abbrev pub called_in_variables : List tree.Variable → List (List ℕ)
-called_in_variables [] = []
-called_in_variables (first ∷ rest) = called_in_option first.initial ++ called_in_variables rest
-
-abbrev mutual
-  pub called_in_stmt : tree.Stmt → List (List ℕ)
-  called_in_stmt tree.Empty = []
-  called_in_stmt (tree.Compose statement) = []
-  called_in_stmt (tree.Block body) = called_in_stmts body
-  called_in_stmt (tree.Declare kind variables) = called_in_variables variables
-  called_in_stmt (tree.Evaluate value) = called_in_expr value
-  called_in_stmt (tree.Assign assigned operator value) = called_in_expr value
-  called_in_stmt (tree.AssignElement array index operator value) =
-      called_in_expr index ++ called_in_expr value
-  called_in_stmt (tree.If condition chosen) = called_in_expr condition ++ called_in_stmt chosen
-  called_in_stmt (tree.IfElse condition chosen other) =
-      called_in_expr condition ++ (called_in_stmt chosen ++ called_in_stmt other)
-  called_in_stmt (tree.While condition body) = called_in_expr condition ++ called_in_stmt body
-  called_in_stmt (tree.For first condition step body) =
-      called_in_stmt first
-      ++ (called_in_option condition ++ (called_in_stmt step ++ called_in_stmt body))
-  called_in_stmt (tree.Push value) = called_in_expr value
-  called_in_stmt (tree.Print value) = called_in_expr value
-  called_in_stmt (tree.Println value) = called_in_expr value
-  called_in_stmt (tree.Return value) = called_in_option value
-
-  pub called_in_stmts : tree.Stmts → List (List ℕ)
-  called_in_stmts tree.Done = []
-  called_in_stmts (tree.Then first rest) = called_in_stmt first ++ called_in_stmts rest
+use Rattle.strc_interval.specs.Calls.{called_in_expr, called_in_arguments, called_in_option}
+use Rattle.strc_interval.specs.Calls.{called_in_variables, called_in_stmt, called_in_stmts}
 
 -- ---- one of them is such a function
 
 abbrev pub one_of : (such : List ℕ → Bool) → List (List ℕ) → Bool
 one_of such [] = false
 one_of such (name ∷ rest) = such name || one_of such rest
+
+pub or_left : (a b : Bool) → a ≡ true → (a || b) ≡ true
+or_left true b e = refl
+or_left false b e = absurd (cc)
+
+pub or_right : (a b : Bool) → b ≡ true → (a || b) ≡ true
+or_right true b e = refl
+or_right false b e = e
 
 one_of-append : (such : List ℕ → Bool) (first second : List (List ℕ))
     → one_of such (first ++ second) ≡ (one_of such first || one_of such second)
@@ -173,38 +128,58 @@ mutual
       both such (called_in_stmt first) (called_in_stmts rest) _ _ (stmt_calls such first)
       (stmts_call such rest)
 
--- ---- for all texts
+-- ---- one name that a text calls
 
-one_of_same : (a b : List ℕ → Bool) (names : List (List ℕ))
-    → ((name : List ℕ) → a name ≡ b name) → one_of a names ≡ one_of b names
-one_of_same a b [] same = refl
-one_of_same a b (name ∷ rest) same =
-    ap (λ t. t || one_of a rest) (same name)
-    ∙ ap (λ t. b name || t) (one_of_same a b rest same)
+pub or_true : (a b : Bool) → (a || b) ≡ true → (a ≡ true) ⊎ (b ≡ true)
+or_true true b e = inl refl
+or_true false b e = inr e
 
--- tests that tell the same of each function tell the same of a text
-pub stmts_call_same : (a b : List ℕ → Bool) (s : tree.Stmts)
-    → ((name : List ℕ) → a name ≡ b name) → stmts_call_one a s ≡ stmts_call_one b s
-stmts_call_same a b s same =
-    stmts_call a s ∙ one_of_same a b (called_in_stmts s) same ∙ sym (stmts_call b s)
+pub same_name : (a b : List ℕ) → bytes_eq a b ≡ true → a ≡ b
+same_name a b e = (bytes_eq-Decides a b).0 e
 
--- none of these names is that of such a function
-abbrev pub NoneSuch : (such : List ℕ → Bool) → List (List ℕ) → Type 0
-NoneSuch such [] = Unit {0}
-NoneSuch such (name ∷ rest) = (such name ≡ false) × NoneSuch such rest
+pub own_name : (a : List ℕ) → bytes_eq a a ≡ true
+own_name a = (bytes_eq-Decides a a).1 refl
 
-none_by : (first : Bool) (such : List ℕ → Bool) (name : List ℕ) (rest : List (List ℕ))
-    → such name ≡ first → (first || one_of such rest) ≡ false
-    → (one_of such rest ≡ false → NoneSuch such rest) → (such name ≡ false) × NoneSuch such rest
-none_by true such name rest at e none = absurd (cc)
-none_by false such name rest at e none = (at, none e)
+-- a name among these that is such a one
+pub record OneNamed (such : List ℕ → Bool) (names : List (List ℕ)) : Type 0 where
+  pub name : List ℕ
+  pub among : has_name names name ≡ true
+  pub is : such name ≡ true
 
-none_of : (such : List ℕ → Bool) (names : List (List ℕ)) → one_of such names ≡ false
-    → NoneSuch such names
-none_of such [] e = tt
-none_of such (name ∷ rest) e = none_by (such name) such name rest refl e (none_of such rest)
+one_named : (such : List ℕ → Bool) (names : List (List ℕ)) → one_of such names ≡ true
+    → OneNamed such names
+one_named such [] e = absurd (cc)
+one_named such (first ∷ rest) e =
+    ⊎_elim (λ here. record {
+      name = first;
+      among = ap (λ t. t || has_name rest first) (own_name first);
+      is = here;
+    })
+    (λ there. let later = one_named such rest there in record {
+      name = later.name;
+      among = or_right (bytes_eq first later.name) (has_name rest later.name) later.among;
+      is = later.is;
+    })
+    (or_true (such first) (one_of such rest) e)
 
--- a text that calls no such function calls only others
-pub calls_none_such : (such : List ℕ → Bool) (block : tree.Stmts)
-    → stmts_call_one such block ≡ false → NoneSuch such (called_in_stmts block)
-calls_none_such such block e = none_of such (called_in_stmts block) (sym (stmts_call such block) ∙ e)
+named_one : (such : List ℕ → Bool) (names : List (List ℕ)) (name : List ℕ)
+    → has_name names name ≡ true → such name ≡ true → one_of such names ≡ true
+named_one such [] name among is = absurd (cc)
+named_one such (first ∷ rest) name among is =
+    ⊎_elim
+    (λ here. or_left (such first) (one_of such rest) (ap such (same_name first name here) ∙ is))
+    (λ there. or_right (such first) (one_of such rest) (named_one such rest name there is))
+    (or_true (bytes_eq first name) (has_name rest name) among)
+
+-- a text that calls such a function calls one by its name
+pub calls_named : (such : List ℕ → Bool) (block : tree.Stmts) → stmts_call_one such block ≡ true
+    → OneNamed such (called_in_stmts block)
+calls_named such block e =
+    one_named such (called_in_stmts block) (sym (stmts_call such block) ∙ e)
+
+-- a text that calls one by its name calls such a function
+pub named_calls : (such : List ℕ → Bool) (block : tree.Stmts) (name : List ℕ)
+    → has_name (called_in_stmts block) name ≡ true → such name ≡ true
+    → stmts_call_one such block ≡ true
+named_calls such block name among is =
+    stmts_call such block ∙ named_one such (called_in_stmts block) name among is

@@ -1,7 +1,7 @@
 -- What it says of a helper function that a call of it writes no field.
-use Rattle.std.proofs.Common.{◌≡◌, refl, sym, ◌∙◌, ap, ℕ, suc, Bool, true, false, ◌||◌, List, []}
+use Rattle.std.proofs.Common.{◌≡◌, refl, sym, ◌∙◌, ap, ℕ, Bool, true, false, ◌||◌, List, []}
 use Rattle.std.proofs.Common.{◌∷◌}
-use Rattle.std.proofs.Common.{Option, Some, cond}
+use Rattle.std.proofs.Common.{Some, cond}
 use Rattle.std.specs.Prelude.{bytes_eq}
 use Rattle.std.proofs.lemmas.Slice.Eq.{bytes_eq-Decides}
 use Rattle.strc_base.specs.Names.{has_name}
@@ -10,21 +10,26 @@ use Rattle.strc_semantics.specs.Filters.{Helper, helper_named}
 use Rattle.strc_interval.specs.Loops.{stmts_write}
 use Rattle.strc_interval.specs.Calls.{stmts_call_one}
 use Rattle.strc_interval.specs.Stateless.{write_one_of, not_shadowed, helper_writes_field}
-use Rattle.strc_interval.specs.Stateless.{named_writes, writes_within}
+use Rattle.strc_interval.specs.Stateless.{writes_or_calls, can_write}
+use Rattle.strc_interval.proofs.Chains.{can_write_by}
 
 neither : (a b : Bool) → (a || b) ≡ false → (a ≡ false) × (b ≡ false)
 neither false b e = (refl, e)
 neither true b e = absurd (cc)
 
--- its block writes none, and calls only functions that write none within one call less
-pub within_block : (members : List tree.Member) (levels : ℕ) (name : List ℕ) (helper : Helper)
-    → helper_named members name ≡ Some helper → writes_within members (suc levels) name ≡ false
+-- its block writes none, and calls only functions that can write none
+pub spared_block : (members : List tree.Member) (name : List ℕ) (helper : Helper)
+    → helper_named members name ≡ Some helper → can_write members name ≡ false
     → (helper_writes_field members helper ≡ false)
-    × (stmts_call_one (writes_within members levels) helper.block ≡ false)
-within_block members levels name helper is none =
-    neither (helper_writes_field members helper)
-    (stmts_call_one (writes_within members levels) helper.block)
-    (sym (ap (named_writes members (writes_within members levels)) is) ∙ none)
+    × (stmts_call_one (can_write members) helper.block ≡ false)
+spared_block members name helper is none =
+    neither (helper_writes_field members helper) (stmts_call_one (can_write members) helper.block)
+    (by_test (writes_or_calls members (can_write members) helper) refl)
+  where
+    by_test : (t : Bool) → writes_or_calls members (can_write members) helper ≡ t → t ≡ false
+    by_test false e = refl
+    by_test true e =
+        let no : false ≡ true = sym none ∙ can_write_by members name helper is e in absurd (cc)
 
 by_shadowed : (shadowed : Bool) (inner : List (List ℕ)) (name : List ℕ) (rest : List (List ℕ))
     (block : tree.Stmts) → has_name inner name ≡ shadowed

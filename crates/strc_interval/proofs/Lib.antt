@@ -4,5 +4,6 @@ pub mod IntervalGrowth
 pub mod Growth
 pub mod Walks
 pub mod CalledNames
-pub mod HelperRounds
+pub mod Chains
+pub mod Search
 pub mod HelperLaws

@@ -1,13 +1,12 @@
 -- Which filters have no state: all their firings are alike, so that copies can share them.
-use Rattle.std.specs.Prelude.{ℕ, zero, suc, Bool, false, not, ◌&&◌, ◌||◌, List, [], ◌∷◌, Option}
-use Rattle.std.specs.Prelude.{Some, None, is_some, if◌then◌else◌}
+use Rattle.std.specs.Prelude.{◌≡◌, ℕ, zero, suc, Bool, false, true, not, ◌&&◌, ◌||◌, List, []}
+use Rattle.std.specs.Prelude.{◌∷◌, Option, Some, None, is_some, if◌then◌else◌}
 use Rattle.strc_base.specs.Names.{has_name}
 use Rattle.strc_syntax.specs.Tree as tree
 use Rattle.strc_semantics.specs.Filters.{Filter, field_names, work_block, prework_block}
 use Rattle.strc_semantics.specs.Filters.{filter_prints, Helper, helper_named}
-use Rattle.strc_semantics.specs.Firing.{call_limit}
 use Rattle.strc_interval.specs.Loops.{stmts_write}
-use Rattle.strc_interval.specs.Calls.{stmts_call_one}
+use Rattle.strc_interval.specs.Calls.{called_in_stmts, stmts_call_one}
 
 -- whether statements write one of the variables that these names have where the statements are, or
 -- an element of one
@@ -43,17 +42,50 @@ abbrev pub named_writes : List tree.Member → (such : List ℕ → Bool) → Op
 named_writes members such None = false
 named_writes members such (Some helper) = writes_or_calls members such helper
 
--- whether a call of the helper function of a name can write a field, where so many calls, it among
--- them, may be running at once
-abbrev pub writes_within : List tree.Member → (levels : ℕ) → List ℕ → Bool
-writes_within members zero name = false
-writes_within members (suc levels) name =
-    named_writes members (writes_within members levels) (helper_named members name)
+-- how many helper functions there are
+abbrev pub helper_count : List tree.Member → ℕ
+helper_count [] = 0
+helper_count (tree.Fields kind variables ∷ rest) = helper_count rest
+helper_count (tree.Init block ∷ rest) = helper_count rest
+helper_count (tree.Prework rates block ∷ rest) = helper_count rest
+helper_count (tree.Work rates block ∷ rest) = helper_count rest
+helper_count (tree.Helper kind name parameters block ∷ rest) = suc (helper_count rest)
 
--- whether the work calls a helper function that can write a field, itself or by its own calls
+-- whether a chain of at most so many helper functions, each called by the one before it, leads from
+-- that of a name to one that writes a field
+abbrev pub writes_within : List tree.Member → (length : ℕ) → List ℕ → Bool
+writes_within members zero name = false
+writes_within members (suc length) name =
+    named_writes members (writes_within members length) (helper_named members name)
+
+-- whether any chain does: a shortest one has no function twice
+abbrev pub can_write : List tree.Member → List ℕ → Bool
+can_write members name = writes_within members (helper_count members) name
+
+-- whether a block calls a helper function that can write a field, itself or by its own calls
+abbrev pub block_calls_writer : List tree.Member → tree.Stmts → Bool
+block_calls_writer members block = stmts_call_one (can_write members) block
+
+-- whether the work does
 abbrev pub calls_writer : Filter → Bool
-calls_writer filter =
-    stmts_call_one (writes_within filter.members call_limit) (work_block filter.members)
+calls_writer filter = block_calls_writer filter.members (work_block filter.members)
+
+-- the least set of names that a block reaches: those that it calls, and with the name of a helper
+-- function those that this one calls
+pub data Reaches (members : List tree.Member) (block : tree.Stmts) : List ℕ → Type 0 where
+  Called : {name : List ℕ} → has_name (called_in_stmts block) name ≡ true
+      → Reaches members block name
+  Through : {name : List ℕ} (caller : List ℕ) (helper : Helper) → Reaches members block caller
+      → helper_named members caller ≡ Some helper
+      → has_name (called_in_stmts helper.block) name ≡ true → Reaches members block name
+
+-- a block reaches the name of a helper function that writes a field
+pub record ReachesWriter (members : List tree.Member) (block : tree.Stmts) : Type 0 where
+  pub name : List ℕ
+  pub helper : Helper
+  pub reached : Reaches members block name
+  pub named : helper_named members name ≡ Some helper
+  pub writes : helper_writes_field members helper ≡ true
 
 -- ---- filters
 

@@ -1,125 +1,170 @@
-// Whether a text calls one of the helper functions that a table names.
+// Which helper functions a text calls.
 
-ghost use Rattle.std.specs.Prelude.{◌≡◌, ◌||◌, map};
+ghost use Rattle.std.specs.Prelude.{◌≡◌, OnOk, map};
 ghost use Rattle.std.specs.Option.{option_map};
 ghost use Rattle.strc_syntax.specs.View.{expr_view, listed_view, variable_view, stmt_view};
 ghost use Rattle.strc_syntax.specs.View.{block_view};
 ghost use Rattle.strc_interval.specs.Calls as spec;
-ghost use Rattle.strc_interval.specs.Writers.{is_writer};
+ghost use Rattle.strc_interval.specs.Writers.{with_call, with_calls};
 
+use strc_base::memory::NoMemory;
 use strc_base::name::Name;
 use strc_base::scope_map::ScopeMap;
 use strc_syntax::tree::{Expr, Stmt, Variable};
 
-/// Whether a table tells of the helper function of this name that it can write a field.
-pub fn is_writer(writers: &ScopeMap<bool>, name: &Name) -> bool
-    ensures { result ≡ is_writer writers.now name.now }
-{
-    writers.value_of(name).unwrap_or(false)
-}
-
-/// Whether one of the statements in a row calls a writer.
+/// Adds the helper functions that statements in a row call to those that are found.
 #[cycle(calls)]
-pub fn block_calls_one(writers: &ScopeMap<bool>, block: &[Stmt]) -> bool
-    ensures { result ≡ spec.stmts_call_one (is_writer writers.now) (block_view block.now) }
+#[tactic(auto, using(crate::proofs::Search::calls_after))]
+pub fn find_in_block(
+    helpers: &ScopeMap<usize>,
+    found: &mut ScopeMap<usize>,
+    block: &[Stmt],
+) -> Result<(), NoMemory>
+    ensures { OnOk result (found.new
+        ≡ with_calls helpers.now found.old (spec.called_in_stmts (block_view block.now))) }
 {
     for statement in block {
-        if statement_calls_one(writers, statement) {
-            return true;
-        }
+        find_in_statement(helpers, found, statement)?;
     }
-    false
+    Ok(())
 }
 
 #[cycle(calls)]
-fn statement_calls_one(writers: &ScopeMap<bool>, statement: &Stmt) -> bool
-    ensures { result ≡ spec.stmt_calls_one (is_writer writers.now) (stmt_view statement.now) }
+#[tactic(auto, using(crate::proofs::Search::calls_after))]
+fn find_in_statement(
+    helpers: &ScopeMap<usize>,
+    found: &mut ScopeMap<usize>,
+    statement: &Stmt,
+) -> Result<(), NoMemory>
+    ensures { OnOk result (found.new
+        ≡ with_calls helpers.now found.old (spec.called_in_stmt (stmt_view statement.now))) }
 {
     match statement {
-        Stmt::Empty | Stmt::Compose(_) => false,
-        Stmt::Block(body) => block_calls_one(writers, body),
-        Stmt::Placed(_, inner) => statement_calls_one(writers, inner),
-        Stmt::Declare(declared) => variables_call_one(writers, &declared.variables),
+        Stmt::Empty | Stmt::Compose(_) => Ok(()),
+        Stmt::Block(body) => find_in_block(helpers, found, body),
+        Stmt::Placed(_, inner) => find_in_statement(helpers, found, inner),
+        Stmt::Declare(declared) => find_in_variables(helpers, found, &declared.variables),
         Stmt::AssignElement(_, index, _, value) => {
-            expression_calls_one(writers, index) || expression_calls_one(writers, value)
+            find_in_expression(helpers, found, index)?;
+            find_in_expression(helpers, found, value)
         }
         Stmt::If(condition, body) | Stmt::While(condition, body) => {
-            expression_calls_one(writers, condition) || statement_calls_one(writers, body)
+            find_in_expression(helpers, found, condition)?;
+            find_in_statement(helpers, found, body)
         }
         Stmt::IfElse(condition, chosen, other) => {
-            expression_calls_one(writers, condition)
-                || (statement_calls_one(writers, chosen) || statement_calls_one(writers, other))
+            find_in_expression(helpers, found, condition)?;
+            find_in_statement(helpers, found, chosen)?;
+            find_in_statement(helpers, found, other)
         }
         Stmt::For(first, condition, step, body) => {
-            statement_calls_one(writers, first)
-                || (option_calls_one(writers, condition)
-                    || (statement_calls_one(writers, step) || statement_calls_one(writers, body)))
+            find_in_statement(helpers, found, first)?;
+            find_in_option(helpers, found, condition)?;
+            find_in_statement(helpers, found, step)?;
+            find_in_statement(helpers, found, body)
         }
         Stmt::Assign(_, _, value)
         | Stmt::Evaluate(value)
         | Stmt::Push(value)
         | Stmt::Print(value)
-        | Stmt::Println(value) => expression_calls_one(writers, value),
-        Stmt::Return(value) => option_calls_one(writers, value),
+        | Stmt::Println(value) => find_in_expression(helpers, found, value),
+        Stmt::Return(value) => find_in_option(helpers, found, value),
     }
 }
 
-/// Whether one of the initialisers of a declaration calls a writer.
-fn variables_call_one(writers: &ScopeMap<bool>, variables: &[Variable]) -> bool
-    ensures { result
-        ≡ spec.variables_call_one (is_writer writers.now) (map variable_view variables.now) }
+/// Adds those that the initialisers of a declaration call.
+#[tactic(auto, using(crate::proofs::Search::calls_after))]
+fn find_in_variables(
+    helpers: &ScopeMap<usize>,
+    found: &mut ScopeMap<usize>,
+    variables: &[Variable],
+) -> Result<(), NoMemory>
+    ensures { OnOk result (found.new ≡ with_calls helpers.now found.old
+        (spec.called_in_variables (map variable_view variables.now))) }
 {
     for variable in variables {
-        if option_calls_one(writers, &variable.initial) {
-            return true;
-        }
+        find_in_option(helpers, found, &variable.initial)?;
     }
-    false
+    Ok(())
 }
 
-fn option_calls_one(writers: &ScopeMap<bool>, value: &Option<Expr>) -> bool
-    ensures { result
-        ≡ spec.option_calls_one (is_writer writers.now) (option_map expr_view value.now) }
+fn find_in_option(
+    helpers: &ScopeMap<usize>,
+    found: &mut ScopeMap<usize>,
+    value: &Option<Expr>,
+) -> Result<(), NoMemory>
+    ensures { OnOk result (found.new ≡ with_calls helpers.now found.old
+        (spec.called_in_option (option_map expr_view value.now))) }
 {
     match value {
-        None => false,
-        Some(value) => expression_calls_one(writers, value),
+        None => Ok(()),
+        Some(value) => find_in_expression(helpers, found, value),
     }
 }
 
 #[cycle(expression)]
-fn expression_calls_one(writers: &ScopeMap<bool>, value: &Expr) -> bool
-    ensures { result ≡ spec.expr_calls_one (is_writer writers.now) (expr_view value.now) }
+#[tactic(auto, using(crate::proofs::Search::calls_after))]
+fn find_in_expression(
+    helpers: &ScopeMap<usize>,
+    found: &mut ScopeMap<usize>,
+    value: &Expr,
+) -> Result<(), NoMemory>
+    ensures { OnOk result (found.new
+        ≡ with_calls helpers.now found.old (spec.called_in_expr (expr_view value.now))) }
 {
     match value {
-        Expr::Number(_) | Expr::Truth(_) | Expr::Read(_) | Expr::Pop | Expr::Step(_, _) => false,
+        Expr::Number(_) | Expr::Truth(_) | Expr::Read(_) | Expr::Pop | Expr::Step(_, _) => Ok(()),
         Expr::Element(_, inner)
         | Expr::Peek(inner)
         | Expr::Group(inner)
         | Expr::Unary(_, inner)
-        | Expr::StepElement(_, _, inner) => expression_calls_one(writers, inner),
+        | Expr::StepElement(_, _, inner) => find_in_expression(helpers, found, inner),
         Expr::Call(called, arguments) => {
-            is_writer(writers, called) || arguments_call_one(writers, arguments)
+            find_called(helpers, found, called)?;
+            find_in_arguments(helpers, found, arguments)
         }
         Expr::Binary(_, left, right) => {
-            expression_calls_one(writers, left) || expression_calls_one(writers, right)
+            find_in_expression(helpers, found, left)?;
+            find_in_expression(helpers, found, right)
         }
         Expr::Conditional(condition, chosen, other) => {
-            expression_calls_one(writers, condition)
-                || (expression_calls_one(writers, chosen) || expression_calls_one(writers, other))
+            find_in_expression(helpers, found, condition)?;
+            find_in_expression(helpers, found, chosen)?;
+            find_in_expression(helpers, found, other)
         }
     }
 }
 
-/// Whether one of the arguments of a call calls a writer itself.
+/// Adds those that the arguments of a call call themselves.
 #[cycle(expression)]
-fn arguments_call_one(writers: &ScopeMap<bool>, arguments: &[Expr]) -> bool
-    ensures { result ≡ spec.arguments_call_one (is_writer writers.now) (listed_view arguments.now) }
+#[tactic(auto, using(crate::proofs::Search::calls_after))]
+fn find_in_arguments(
+    helpers: &ScopeMap<usize>,
+    found: &mut ScopeMap<usize>,
+    arguments: &[Expr],
+) -> Result<(), NoMemory>
+    ensures { OnOk result (found.new ≡ with_calls helpers.now found.old
+        (spec.called_in_arguments (listed_view arguments.now))) }
 {
     for argument in arguments {
-        if expression_calls_one(writers, argument) {
-            return true;
-        }
+        find_in_expression(helpers, found, argument)?;
     }
-    false
+    Ok(())
+}
+
+/// Adds the helper function of a name that is called.
+fn find_called(
+    helpers: &ScopeMap<usize>,
+    found: &mut ScopeMap<usize>,
+    called: &Name,
+) -> Result<(), NoMemory>
+    ensures { OnOk result (found.new ≡ with_call helpers.now found.old called.now) }
+{
+    if found.has(called) {
+        return Ok(());
+    }
+    match helpers.value_of(called) {
+        Some(place) => found.declare(called, place),
+        None => Ok(()),
+    }
 }

@@ -23,8 +23,8 @@ use Rattle.strc_interval.specs.Loops.{stmts_write}
 use Rattle.strc_interval.specs.Calls.{stmts_call_one}
 use Rattle.strc_interval.specs.Writers.{with_parameters}
 use Rattle.strc_interval.specs.Stateless.{write_one_of, not_shadowed, writes_field, is_stateless}
-use Rattle.strc_interval.specs.Stateless.{helper_writes_field, writes_within, calls_writer}
-use Rattle.strc_interval.proofs.HelperLaws.{shown_unwritten, within_block}
+use Rattle.strc_interval.specs.Stateless.{helper_writes_field, can_write, calls_writer}
+use Rattle.strc_interval.proofs.HelperLaws.{shown_unwritten, spared_block}
 use Rattle.strc_rate.proofs.Results.{or_first, or_second, and_first, and_second, then_ok}
 use Rattle.strc_rate.proofs.Keeping.{Covers}
 use Rattle.strc_rate.proofs.Unwritten.{turned_holds}
@@ -176,9 +176,9 @@ fields_length members held =
 -- a helper function's block that writes no field, and calls none that does
 block_spares : (members : List tree.Member) (levels : ℕ) (helper : Helper) (values held : List ℤ)
     (turns : ℕ) → helper_writes_field members helper ≡ false
-    → stmts_call_one (writes_within members levels) helper.block ≡ false
+    → stmts_call_one (can_write members) helper.block ≡ false
     → length held ≡ total (sized_fields members)
-    → GivesBack (setting_with members (called members levels)) (writes_within members levels) held
+    → GivesBack (setting_with members (called members levels)) (can_write members) held
     → IfOk (result_and_then
     (turned (helper_store (sized_fields members) helper.parameters values held turns))
     (λ begun. result_and_then
@@ -201,9 +201,9 @@ block_spares members levels helper values held turns none calls size back =
     (record { inner = answer ∷ []; is = refl; named = refl })))
     (λ begun h. then_ok (stmts_done setting helper.block begun) _
     (λ ended. Around outer names ended.variables) (λ given. given.fields ≡ held)
-    (stmts_spare setting outer (writes_within members levels)
-    (λ inner. within_holding setting (writes_within members levels) outer inner count
-    (subst (GivesBack setting (writes_within members levels)) (sym is_held) back))
+    (stmts_spare setting outer (can_write members)
+    (λ inner. within_holding setting (can_write members) outer inner count
+    (subst (GivesBack setting (can_write members)) (sym is_held) back))
     helper.block names begun
     (fields_covered members held helper.parameters names helper.block none
     (λ name bare. (no_parameter (answer_name ∷ []) helper.parameters name bare).1))
@@ -213,9 +213,9 @@ block_spares members levels helper values held turns none calls size back =
     ∙ ap values_of (outer_is outer (k.more ++ names) ended.variables k.within) ∙ is_held))
 
 helper_spares : (members : List tree.Member) (levels : ℕ) (name : List ℕ) (values held : List ℤ)
-    (turns : ℕ) → writes_within members (suc levels) name ≡ false
+    (turns : ℕ) → can_write members name ≡ false
     → length held ≡ total (sized_fields members)
-    → GivesBack (setting_with members (called members levels)) (writes_within members levels) held
+    → GivesBack (setting_with members (called members levels)) (can_write members) held
     → (found : Option Helper) → helper_named members name ≡ found
     → IfOk (helper_called (setting_with members (called members levels)) (sized_fields members)
     found values held turns) (λ given. given.fields ≡ held)
@@ -233,12 +233,12 @@ helper_spares members levels name values held turns none size back (Some helper)
     by_test : (t : Bool) → IfOk (cond t run (Err Calls)) (λ given. given.fields ≡ held)
     by_test false = tt
     by_test true =
-        let parts = within_block members levels name helper e none in
+        let parts = spared_block members name helper e none in
         block_spares members levels helper values held turns parts.0 parts.1 size back
 
 -- a call of a helper function that can write no field gives their values back
 pub called_spares : (members : List tree.Member) (levels : ℕ) (held : List ℤ) (name : List ℕ)
-    (values : List ℤ) (turns : ℕ) → writes_within members levels name ≡ false
+    (values : List ℤ) (turns : ℕ) → can_write members name ≡ false
     → length held ≡ total (sized_fields members)
     → IfOk (called members levels name values held turns) (λ given. given.fields ≡ held)
 called_spares members zero held name values turns none size = tt
@@ -280,7 +280,7 @@ pub keeps_fields : StatelessKeepsFields
 keeps_fields filter fields window stateless closed size =
     let members = filter.members in
     let block = work_block members in
-    let such = writes_within members call_limit in
+    let such = can_write members in
     let setting = setting_of filter body.Work window in
     let store = store_at filter fields in
     let outer = fields_at members fields in

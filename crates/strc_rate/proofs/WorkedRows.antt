@@ -1,10 +1,8 @@
 -- The worked rows compute.
 use Rattle.std.proofs.Common.{refl}
-use Rattle.strc_semantics.specs.Firing.{call_limit}
 use Rattle.strc_rate.specs.Rows.{StatelessRows}
 
 pub rows_compute : StatelessRows
-unfolding call_limit
 rows_compute = record {
   reads = refl;
   writes = refl;

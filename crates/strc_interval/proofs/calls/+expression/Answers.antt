@@ -1,18 +1,40 @@
-use Rattle.std.proofs.Common.{◌≡◌, ◌||◌, false, sym, ap, ◌∙◌}
+use Rattle.std.proofs.Common.{◌≡◌, ◌<◌, ◌+◌, OnOk, length, drop, sym, ap, ◌∷◌, subst, ◌∙◌, arith}
 use Rattle.strc_syntax.specs.View.{expr_view, listed_view}
-use Rattle.strc_syntax.proofs.Calls.{expr_view-Call}
-use Rattle.strc_interval.specs.Calls.{expr_calls_one, arguments_call_one}
-use Rattle.strc_interval.specs.Writers.{is_writer}
+use Rattle.strc_syntax.proofs.Calls.{expr_view-Call, listed_view-drop}
+use Rattle.strc_interval.specs.Calls.{called_in_expr, called_in_arguments}
+use Rattle.strc_interval.specs.Writers.{Places, with_calls}
+use Rattle.strc_interval.proofs.Search.{calls_after}
 use Rattle.strc_interval.proofs.calls.+expression.Goals as goal
 
-pub expression_calls_one-returns-else-is_writer : goal.expression_calls_one-returns-else-is_writer
-expression_calls_one-returns-else-is_writer t c =
-    let such = is_writer c.args.writers.now in
+pub find_in_arguments-loop-argument-preserved : goal.find_in_arguments-loop-argument-preserved
+find_in_arguments-loop-argument-preserved t c =
+    let helpers : Places = c.args.helpers.now in
+    let found : Places = c.loop-argument.found in
+    let items = c.args.arguments.now in
+    let i = c.loop-argument.argument-index in
+    let lt : i < length items = omega arith in
+    let x = c.argument-item.result in
+    let rest = called_in_arguments (listed_view (drop (i + 1) items)) in
+    ap (λ l. with_calls helpers l rest) c.in_ok-find_in_expression.ensures
+    ∙ sym (calls_after helpers found (called_in_expr (expr_view x)) rest)
+    ∙ ap (λ a. with_calls helpers found (called_in_arguments a))
+    (sym (listed_view-drop items i x lt c.argument-item.is))
+    ∙ c.loop-argument.invariant
+
+pub find_in_expression-returns-in_ok-find_called-in-Call :
+    goal.find_in_expression-returns-in_ok-find_called-in-Call
+find_in_expression-returns-in_ok-find_called-in-Call t c =
+    let helpers : Places = c.args.helpers.now in
+    let found : Places = c.args.found.now in
     let called = c.in-Call.called in
     let arguments = c.in-Call.arguments in
-    let other : such called ≡ false = sym c.is_writer.ensures ∙ c.if-is_writer.false in
-    c.arguments_call_one.ensures
-    ∙ ap (λ items. arguments_call_one such (listed_view items)) c.deref.ensures.value
-    ∙ ap (λ t. t || arguments_call_one such (listed_view arguments.items)) (sym other)
-    ∙ ap (expr_calls_one such) (sym (expr_view-Call called arguments))
-    ∙ ap (λ e. expr_calls_one such (expr_view e)) (sym c.in-Call.is)
+    let is =
+    ap (λ l. with_calls helpers l (called_in_arguments (listed_view c.deref.result.now)))
+    c.in_ok-find_called-in-Call.ensures
+    ∙ ap (λ items. with_calls helpers found
+    (called ∷ called_in_arguments (listed_view items))) c.deref.ensures.value
+    ∙ ap (λ e. with_calls helpers found (called_in_expr e))
+    (sym (expr_view-Call called arguments))
+    ∙ ap (λ e. with_calls helpers found (called_in_expr (expr_view e))) (sym c.in-Call.is) in
+    subst (λ (after : Places). OnOk c.find_in_arguments.result
+    (c.find_in_arguments.new.found ≡ after)) is c.find_in_arguments.ensures
