@@ -11,14 +11,14 @@ use std::process::ExitCode;
 use std::sync::Wait;
 use std::thread::{Builder, Threads};
 use std::{env, thread};
-use strc_cli::device::Told;
 use strc_cli::execute::{CliError, Status};
-use strc_cli::explained::{Explained, execute_explained};
-use strc_cli::line::{Command, Line, LineFault};
-use strc_cli::words::{VERSION, asks_for_help, asks_for_version, command, usage_error};
+use strc_cli::explanation::{Explained, execute_explained};
+use strc_cli_input::device::Told;
+use strc_cli_words::line::{Command, Line, LineFault};
+use strc_cli_words::words::{VERSION, asks_for_help, asks_for_version, command, usage_error};
 use strc_lex::program_text::{TextFault, read_text};
-use strc_ring::{Gate, OpenGate, StageTimes};
-use strc_stages::Stage;
+use strc_run_links::{Gate, OpenGate, StageTimes};
+use strc_stage_steps::Stage;
 
 // The exit statuses that no answer of `execute_explained` has.
 const DONE: u8 = 0;

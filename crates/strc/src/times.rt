@@ -2,10 +2,10 @@
 
 use std::alloc::{AllocError, Global};
 use std::time::Clock;
-use strc_graph::graph::Graph;
-use strc_ring::{StageTimes, alone_line, stage_line};
+use strc_elab_graph::graph::Graph;
 use strc_run::compile::Plan;
-use strc_stage::bounds::stage_bounds;
+use strc_run_links::{StageTimes, alone_line, stage_line};
+use strc_stage_plan::bounds::stage_bounds;
 
 /// A line for each stage of a plan that so many workers ran, with its nodes after fission, its
 /// steps and their time; or one line where the calling thread did all. No bytes where memory runs

@@ -5,8 +5,8 @@ use Rattle.std.specs.Prelude.{IsTrue}
 use Rattle.std.specs.List.{All, Contains}
 use Rattle.std.proofs.lemmas.List.{get_or-map, length-map}
 use Rattle.std.proofs.lemmas.List.Elements.{Contains-get_or}
-use Rattle.strc_graph.specs.Graphs.{Channel, Graph}
-use Rattle.strc_graph.specs.Connections as channels
+use Rattle.strc_elab_graph.specs.Graphs.{Channel, Graph}
+use Rattle.strc_elab_graph.specs.Connections as channels
 use Rattle.strc_balance.specs.declared.equation.Equation.{Equation}
 use Rattle.strc_balance.specs.Balance.{Path, Here, Along, Against, AreConnected}
 use Rattle.strc_balance.specs.Rates.{IsRated, equation_of, equations_of, size_of}

@@ -1,9 +1,9 @@
 -- The equations of a declared graph are those of what contracts see of it.
 use Rattle.std.proofs.Common.{◌≡◌, ◌∙◌, ℕ, List, length, map, ap, sym, subst, Result}
 use Rattle.std.proofs.lemmas.List.{length-map}
-use Rattle.strc_graph.specs.declared.graph.Node.{Node}
-use Rattle.strc_graph.specs.declared.graph.Channel.{Channel}
-use Rattle.strc_graph.specs.NodeView.{GraphParts, graph_view, node_view, channel_view}
+use Rattle.strc_elab_graph.specs.declared.graph.Node.{Node}
+use Rattle.strc_elab_graph.specs.declared.graph.Channel.{Channel}
+use Rattle.strc_elab_graph.specs.NodeView.{GraphParts, graph_view, node_view, channel_view}
 use Rattle.strc_balance.specs.declared.equation.Equation.{Equation}
 use Rattle.strc_balance.specs.declared.error.BalanceError.{BalanceError}
 use Rattle.strc_balance.specs.Rates.{equation_of, equations_of, size_of}

@@ -6,8 +6,8 @@ use Rattle.std.specs.Option.{option_map_or}
 use Rattle.std.proofs.lemmas.Bool.{cases_lt}
 use Rattle.std.proofs.lemmas.List.{get_or-map, length-map}
 use Rattle.std.proofs.lemmas.Option.{slice_get_past}
-use Rattle.strc_graph.specs.Graphs.{NodeCode, Channel, Graph, JoinsPorts, IsGraph, inputs_at}
-use Rattle.strc_graph.specs.Graphs.{outputs_at, input_ports, output_ports}
+use Rattle.strc_elab_graph.specs.Graphs.{NodeCode, Channel, Graph, JoinsPorts, IsGraph, inputs_at}
+use Rattle.strc_elab_graph.specs.Graphs.{outputs_at, input_ports, output_ports}
 use Rattle.strc_balance.specs.Balance.{HasRates}
 use Rattle.strc_balance.specs.Rates.{IsRated, equation_of, equations_of, size_of}
 

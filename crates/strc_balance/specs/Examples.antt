@@ -1,11 +1,11 @@
 -- Small graphs, and their counts.
 use Rattle.std.specs.Prelude.{◌≡◌, ℕ, ◌+◌, pos, true, [], ◌∷◌, None, Ok, Err}
-use Rattle.strc_syntax.specs.Tree as tree
-use Rattle.strc_syntax.specs.declared.tree.ItemType.TheVariants.{Int}
-use Rattle.strc_syntax.specs.declared.tree.RateKind.{RateKind}
-use Rattle.strc_syntax.specs.declared.tree.RateKind.TheVariants as rate
-use Rattle.strc_graph.specs.Graphs as graphs
-use Rattle.strc_graph.specs.Graphs.{NodeCode, Channel, Graph}
+use Rattle.strc_parse_tree.specs.Tree as tree
+use Rattle.strc_parse_tree.specs.declared.tree.ItemType.TheVariants.{Int}
+use Rattle.strc_parse_tree.specs.declared.tree.RateKind.{RateKind}
+use Rattle.strc_parse_tree.specs.declared.tree.RateKind.TheVariants as rate
+use Rattle.strc_elab_graph.specs.Graphs as graphs
+use Rattle.strc_elab_graph.specs.Graphs.{NodeCode, Channel, Graph}
 use Rattle.strc_balance.specs.declared.error.BalanceError.TheVariants.{CountsTooLarge, Inconsistent}
 use Rattle.strc_balance.specs.Rates.{equations_of, size_of}
 use Rattle.strc_balance.specs.Verdicts.{judged}

@@ -2,10 +2,10 @@
 use Rattle.std.specs.Prelude.{ℕ, ◌<◌, List, map, length, slice_get}
 use Rattle.std.specs.Prelude.{if◌then◌else◌}
 use Rattle.std.specs.Option.{option_map_or}
-use Rattle.strc_graph.specs.Graphs.{NodeCode, Channel, Graph}
-use Rattle.strc_graph.specs.Rates.{pops_at, pushes_at}
-pub use Rattle.strc_graph.specs.Rates.{fires_by_rounds}
-use Rattle.strc_graph.specs.declared.graph.Port.{Port}
+use Rattle.strc_elab_graph.specs.Graphs.{NodeCode, Channel, Graph}
+use Rattle.strc_elab_graph.specs.Rates.{pops_at, pushes_at}
+pub use Rattle.strc_elab_graph.specs.Rates.{fires_by_rounds}
+use Rattle.strc_elab_graph.specs.declared.graph.Port.{Port}
 use Rattle.strc_balance.specs.declared.equation.Equation.{Equation}
 
 -- the rates by `work` are those of each firing after the first one

@@ -1,8 +1,8 @@
 // How often each node of a graph fires in a round.
 
 ghost use Rattle.std.specs.Prelude.{◌≡◌, ℕ, List, Err, All, IfOk, length};
-ghost use Rattle.strc_graph.specs.Connections.{IsConnected};
-ghost use Rattle.strc_graph.specs.NodeView.{graph_view};
+ghost use Rattle.strc_elab_graph.specs.Connections.{IsConnected};
+ghost use Rattle.strc_elab_graph.specs.NodeView.{graph_view};
 ghost use Rattle.strc_balance.specs.declared.error.BalanceError.TheVariants as refused;
 ghost use Rattle.strc_balance.specs.Balance.{Balances, IsLeast, IsWithinLimit};
 ghost use Rattle.strc_balance.specs.Rates.{IsRated, equations_of, size_of};
@@ -13,7 +13,7 @@ use crate::error::BalanceError;
 use crate::rates::equations_of;
 use crate::solution::solve;
 use std::alloc::Global;
-use strc_graph::graph::Graph;
+use strc_elab_graph::graph::Graph;
 
 /// The repetition vector of a graph: the least counts at which its nodes fire in one round, so that
 /// each channel ends with as many items as it began with.

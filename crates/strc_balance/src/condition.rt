@@ -1,8 +1,8 @@
 // The condition of balancing a graph, as a test.
 
 ghost use Rattle.std.specs.Prelude.{◌≡◌, ◌↔◌, All, IfOk, IsTrue};
-ghost use Rattle.strc_graph.specs.Connections.{IsConnected};
-ghost use Rattle.strc_graph.specs.NodeView.{graph_view};
+ghost use Rattle.strc_elab_graph.specs.Connections.{IsConnected};
+ghost use Rattle.strc_elab_graph.specs.NodeView.{graph_view};
 ghost use Rattle.strc_balance.specs.Balance.{AreConnected, HasRates};
 ghost use Rattle.strc_balance.specs.Conditions.{AreKnown, all_unit_rates};
 ghost use Rattle.strc_balance.specs.Rates.{IsRated, equations_of};
@@ -12,8 +12,8 @@ use crate::fraction::Fraction;
 use crate::propagation::spread;
 use crate::rates::equations_of;
 use std::alloc::{AllocError, Global};
-use strc_base::memory::NoMemory;
-use strc_graph::graph::Graph;
+use strc_elab_graph::graph::Graph;
+use strc_lex_names::memory::NoMemory;
 
 /// Whether a graph can be given to `balance`: both ends of each channel have a rate of at least 1
 /// by `work`, and all nodes are connected by channels, taken without direction.

@@ -2,8 +2,8 @@
 // Gives its repetition vector: the least counts at which its nodes fire in one round.
 // The theorem to rely on: the counts are the least positive solution of the balance equations (Lee
 // and Messerschmitt 1987), and a refusal says that none exists within the limit, or none at all.
-// Stands on strc_graph, whose graph it takes and whose rates by port it balances, on strc_base, and
-// on strc_syntax, in whose trees the filters of its examples are written.
+// Stands on strc_elab_graph, whose graph it takes and whose rates by port it balances, on
+// strc_lex_names, and on strc_parse_tree, in whose trees the filters of its examples are written.
 #![tactic(auto)]
 
 pub mod balance;

@@ -1,15 +1,15 @@
 // The balance equations of a graph, by the rates of `work`.
 
 ghost use Rattle.std.specs.Prelude.{◌≡◌, ◌<◌, ◌^◌, IfOk, All, map};
-ghost use Rattle.strc_graph.specs.NodeView.{node_view, channel_view};
-ghost use Rattle.strc_graph.specs.Graphs.{JoinsPorts};
+ghost use Rattle.strc_elab_graph.specs.NodeView.{node_view, channel_view};
+ghost use Rattle.strc_elab_graph.specs.Graphs.{JoinsPorts};
 ghost use Rattle.strc_balance.specs.Rates as spec;
 ghost use Rattle.strc_balance.specs.Frontiers.{IsBounded};
 
 use crate::equation::Equation;
 use std::alloc::{AllocError, Global};
-use strc_graph::graph::{Channel, Node};
-use strc_graph::rates::{fires_by_rounds, pops_at, pushes_at};
+use strc_elab_graph::graph::{Channel, Node};
+use strc_elab_graph::rates::{fires_by_rounds, pops_at, pushes_at};
 
 /// The balance equation of each channel.
 pub(crate) fn equations_of(

@@ -3,9 +3,9 @@ use Rattle.std.proofs.Common.{◌≡◌, ◌∙◌, refl, ℕ, ℤ, Bool, true, 
 use Rattle.std.proofs.Common.{String, Global, length, sym, ap, subst, Result, Ok, Err}
 use Rattle.std.specs.List.{list_any}
 use Rattle.std.proofs.lemmas.List.{length-map}
-use Rattle.strc_graph.specs.Graphs.{reads_input}
-use Rattle.strc_graph.specs.NodeView.{channel_view, node_view}
-use Rattle.strc_stage.specs.Plans.{PlanParts}
+use Rattle.strc_elab_graph.specs.Graphs.{reads_input}
+use Rattle.strc_elab_graph.specs.NodeView.{channel_view, node_view}
+use Rattle.strc_stage_plan.specs.Plans.{PlanParts}
 use Rattle.strc_run.specs.Choices.{Choice}
 use Rattle.strc_run.specs.Laws.{PlansAnswerTexts}
 use Rattle.strc_run.specs.Plans.{IsPlanOf}
@@ -13,12 +13,12 @@ use Rattle.strc_run.specs.Rounds.{plan_reads}
 use Rattle.strc_run.specs.TextRuns.{has_reader}
 use Rattle.strc_cli.specs.declared.answer.Answer.{Answer}
 use Rattle.strc_cli.specs.declared.answer.Answer.TheVariants as answer
-use Rattle.strc_output.specs.declared.stop.Stop.{Stop}
-use Rattle.strc_output.specs.declared.stop.Stop.TheVariants as stop
-use Rattle.strc_cli.specs.declared.line.Command.TheVariants as command
-use Rattle.strc_cli.specs.declared.input.ReadStop.{ReadStop}
-use Rattle.strc_cli.specs.declared.input.ReadStop.TheVariants as read
-use Rattle.strc_cli.specs.ReadInput.{WritesNumbers}
+use Rattle.strc_cli_output.specs.declared.stop.Stop.{Stop}
+use Rattle.strc_cli_output.specs.declared.stop.Stop.TheVariants as stop
+use Rattle.strc_cli_words.specs.declared.line.Command.TheVariants as command
+use Rattle.strc_cli_input.specs.declared.input.ReadStop.{ReadStop}
+use Rattle.strc_cli_input.specs.declared.input.ReadStop.TheVariants as read
+use Rattle.strc_cli_input.specs.ReadInput.{WritesNumbers}
 use Rattle.strc_cli.specs.Answering.{chosen, HasSize, IsAnswered, IsInput, ReadsText}
 use Rattle.strc_cli.specs.Input.{IsInputOf, IsRunAnswer, unread}
 

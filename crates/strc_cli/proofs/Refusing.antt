@@ -1,17 +1,17 @@
 -- Where a command's text is refused.
 use Rattle.std.proofs.Common.{ℕ, List, Result, Ok, Err}
-use Rattle.strc_refusal.specs.declared.refusal.Refusal.{Refusal}
-use Rattle.strc_refusal.specs.declared.refusal.Refusal.TheVariants as refusal
-use Rattle.strc_stage.specs.Plans.{PlanParts}
+use Rattle.strc_run_refusal.specs.declared.refusal.Refusal.{Refusal}
+use Rattle.strc_run_refusal.specs.declared.refusal.Refusal.TheVariants as refusal
+use Rattle.strc_stage_plan.specs.Plans.{PlanParts}
 use Rattle.strc_run.specs.Choices.{Choice}
 use Rattle.strc_run.specs.Laws.{AcceptedOrRefused}
 use Rattle.strc_run.specs.Located.{IsLocated}
 use Rattle.strc_run.specs.Plans.{IsPlanOf}
 use Rattle.strc_run.specs.Refuses.{IsReadRefusal, IsTrueOf}
-use Rattle.strc_output.specs.declared.stop.Stop.{Stop}
-use Rattle.strc_output.specs.declared.stop.Stop.TheVariants as stop
+use Rattle.strc_cli_output.specs.declared.stop.Stop.{Stop}
+use Rattle.strc_cli_output.specs.declared.stop.Stop.TheVariants as stop
 use Rattle.strc_cli.specs.declared.answer.Answer.{Answer}
-use Rattle.strc_cli.specs.declared.line.Command.{Command}
+use Rattle.strc_cli_words.specs.declared.line.Command.{Command}
 use Rattle.strc_cli.specs.Answering.{choice_of}
 use Rattle.strc_cli.specs.Drawing.{IsDrawn}
 use Rattle.strc_cli.specs.Explaining.{IsRefusedAt}

@@ -3,17 +3,17 @@ use Rattle.std.specs.Prelude.{◌≡◌, ℕ, ℤ, Bool, true, false, List, [], 
 use Rattle.std.specs.Prelude.{Err, String, string_bytes, None, unwrap_or}
 use Rattle.std.specs.declared.alloc.Global.{Global}
 use Rattle.std.specs.Option.{option_map}
-use Rattle.strc_cli.specs.ReadInput.{WritesNumbers}
-use Rattle.strc_refusal.specs.declared.outcome.Outcome.{Outcome}
-use Rattle.strc_refusal.specs.declared.run_refusal.RunRefusal.{RunRefusal}
-use Rattle.strc_refusal.specs.declared.run_refusal.RunRefusal.TheVariants.{BadWorkers}
-use Rattle.strc_stream.specs.Instances.{Stream}
+use Rattle.strc_cli_input.specs.ReadInput.{WritesNumbers}
+use Rattle.strc_sched_outcome.specs.declared.outcome.Outcome.{Outcome}
+use Rattle.strc_sched_outcome.specs.declared.run_refusal.RunRefusal.{RunRefusal}
+use Rattle.strc_sched_outcome.specs.declared.run_refusal.RunRefusal.TheVariants.{BadWorkers}
+use Rattle.strc_elab_stream.specs.Instances.{Stream}
 use Rattle.strc_fuse.specs.Units.{round_units}
-use Rattle.strc_output.specs.Parts.{round_shares, startup_shares}
-use Rattle.strc_output.specs.Pictures.{picture_text}
-use Rattle.strc_output.specs.Stages.{plan_picture_text}
-use Rattle.strc_stage.specs.Plans.{PlanParts, graph_of}
-use Rattle.strc_stage.specs.Bounds.{stage_bounds}
+use Rattle.strc_cli_output.specs.Parts.{round_shares, startup_shares}
+use Rattle.strc_cli_output.specs.Pictures.{picture_text}
+use Rattle.strc_cli_output.specs.Stages.{plan_picture_text}
+use Rattle.strc_stage_plan.specs.Plans.{PlanParts, graph_of}
+use Rattle.strc_stage_plan.specs.Bounds.{stage_bounds}
 use Rattle.strc_run.specs.Accepts.{Accepts}
 use Rattle.strc_run.specs.Choices.{Choice}
 use Rattle.strc_run.specs.Plans.{IsPlanOf}
@@ -25,10 +25,10 @@ use Rattle.strc_cli.specs.declared.execute.CliError.{CliError}
 use Rattle.strc_cli.specs.declared.execute.CliError.TheVariants as error
 use Rattle.strc_cli.specs.declared.answer.Answer.{Answer}
 use Rattle.strc_cli.specs.declared.answer.Answer.TheVariants as answer
-use Rattle.strc_output.specs.declared.stop.Stop.{Stop}
-use Rattle.strc_output.specs.declared.stop.Stop.TheVariants as stop
-use Rattle.strc_cli.specs.declared.line.Command.{Command}
-use Rattle.strc_cli.specs.declared.line.Command.TheVariants as command
+use Rattle.strc_cli_output.specs.declared.stop.Stop.{Stop}
+use Rattle.strc_cli_output.specs.declared.stop.Stop.TheVariants as stop
+use Rattle.strc_cli_words.specs.declared.line.Command.{Command}
+use Rattle.strc_cli_words.specs.declared.line.Command.TheVariants as command
 
 -- a text is compiled for the main stream of this name, where there is one, with so many copies of a
 -- node, and so many entries in the list of a fused unit

@@ -1,17 +1,17 @@
 -- The pictures of a plan, for whatever text it is the plan of.
 use Rattle.std.specs.Prelude.{◌≡◌, ℕ, List, Result, Ok, Err}
-use Rattle.strc_stage.specs.Plans.{PlanParts}
-use Rattle.strc_refusal.specs.Placing.{unplaced}
-use Rattle.strc_refusal.specs.declared.refusal.Refusal.TheVariants.{NoMemory}
-use Rattle.strc_refusal.specs.declared.run_refusal.RunRefusal.TheVariants.{BadWorkers}
+use Rattle.strc_stage_plan.specs.Plans.{PlanParts}
+use Rattle.strc_run_refusal.specs.Placing.{unplaced}
+use Rattle.strc_run_refusal.specs.declared.refusal.Refusal.TheVariants.{NoMemory}
+use Rattle.strc_sched_outcome.specs.declared.run_refusal.RunRefusal.TheVariants.{BadWorkers}
 use Rattle.strc_run.specs.Choices.{Choice}
 use Rattle.strc_run.specs.Plans.{IsPlanOf}
 use Rattle.strc_run.specs.Refuses.{IsTrueOf}
 use Rattle.strc_run.specs.Rounds.{AreWorkers}
 use Rattle.strc_cli.specs.declared.answer.Answer.{Answer}
 use Rattle.strc_cli.specs.declared.answer.Answer.TheVariants as answer
-use Rattle.strc_output.specs.declared.stop.Stop.{Stop}
-use Rattle.strc_output.specs.declared.stop.Stop.TheVariants as stop
+use Rattle.strc_cli_output.specs.declared.stop.Stop.{Stop}
+use Rattle.strc_cli_output.specs.declared.stop.Stop.TheVariants as stop
 use Rattle.strc_cli.specs.Answering.{HasPicture, stages_text}
 
 -- the plan of this text is drawn, or the text is refused

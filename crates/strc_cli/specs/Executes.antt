@@ -7,17 +7,17 @@ use Rattle.strc_cli.specs.declared.execute.Status.{Status}
 use Rattle.strc_cli.specs.declared.execute.Status.TheVariants as status
 use Rattle.strc_cli.specs.declared.answer.Answer.{Answer}
 use Rattle.strc_cli.specs.declared.answer.Answer.TheVariants as answer
-use Rattle.strc_output.specs.declared.stop.Stop.{Stop}
-use Rattle.strc_output.specs.declared.stop.Stop.TheVariants as stop
-use Rattle.strc_cli.specs.declared.line.Command.{Command}
-use Rattle.strc_refusal.specs.declared.outcome.Outcome.TheVariants as outcome
-use Rattle.strc_refusal.specs.declared.run_refusal.RunRefusal.{RunRefusal}
-use Rattle.strc_refusal.specs.declared.run_refusal.RunRefusal.TheVariants as unrun
-use Rattle.strc_refusal.specs.declared.refusal.Refusal.{Refusal}
-use Rattle.strc_refusal.specs.declared.refusal.Refusal.TheVariants as refusal
+use Rattle.strc_cli_output.specs.declared.stop.Stop.{Stop}
+use Rattle.strc_cli_output.specs.declared.stop.Stop.TheVariants as stop
+use Rattle.strc_cli_words.specs.declared.line.Command.{Command}
+use Rattle.strc_sched_outcome.specs.declared.outcome.Outcome.TheVariants as outcome
+use Rattle.strc_sched_outcome.specs.declared.run_refusal.RunRefusal.{RunRefusal}
+use Rattle.strc_sched_outcome.specs.declared.run_refusal.RunRefusal.TheVariants as unrun
+use Rattle.strc_run_refusal.specs.declared.refusal.Refusal.{Refusal}
+use Rattle.strc_run_refusal.specs.declared.refusal.Refusal.TheVariants as refusal
 use Rattle.strc_cli.specs.Answering.{IsAnswered}
-use Rattle.strc_graph.specs.NodeView.{node_names}
-use Rattle.strc_output.specs.Output.{check_line, outcome_text, plan_text, stop_line}
+use Rattle.strc_elab_graph.specs.NodeView.{node_names}
+use Rattle.strc_cli_output.specs.Output.{check_line, outcome_text, plan_text, stop_line}
 
 -- all that is written: what the run printed, the lines of a plan, a picture, or one line
 abbrev pub answer_text : Result Answer Stop → List ℕ

@@ -1,15 +1,15 @@
 -- What a person reads of an answer, and where a text is refused.
 use Rattle.std.specs.Prelude.{◌≡◌, ◌⊎◌, ⊤, ℕ, List, [], Option, Result, Ok, Err}
 use Rattle.strc_run.specs.Located.{IsLocated}
-use Rattle.strc_refusal.specs.declared.outcome.Outcome.TheVariants as outcome
-use Rattle.strc_messages.specs.Told.{TellsFaultOfText, TellsOfText}
-use Rattle.strc_output.specs.declared.stop.Stop.{Stop}
-use Rattle.strc_output.specs.declared.stop.Stop.TheVariants as stop
+use Rattle.strc_sched_outcome.specs.declared.outcome.Outcome.TheVariants as outcome
+use Rattle.strc_cli_messages.specs.Told.{TellsFaultOfText, TellsOfText}
+use Rattle.strc_cli_output.specs.declared.stop.Stop.{Stop}
+use Rattle.strc_cli_output.specs.declared.stop.Stop.TheVariants as stop
 use Rattle.strc_cli.specs.declared.answer.Answer.{Answer}
 use Rattle.strc_cli.specs.declared.answer.Answer.TheVariants as answer
 use Rattle.strc_cli.specs.declared.execute.CliError.{CliError}
 use Rattle.strc_cli.specs.declared.execute.Status.{Status}
-use Rattle.strc_cli.specs.declared.line.Command.{Command}
+use Rattle.strc_cli_words.specs.declared.line.Command.{Command}
 use Rattle.strc_cli.specs.Answering.{IsAnswered, choice_of}
 use Rattle.strc_cli.specs.Executes.{Device, IsReported}
 

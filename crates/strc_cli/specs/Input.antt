@@ -2,17 +2,17 @@
 use Rattle.std.specs.Prelude.{◌≡◌, ℕ, ℤ, Bool, true, false, List, [], Option, Result, Ok}
 use Rattle.std.specs.Prelude.{Err, Vec}
 use Rattle.std.specs.declared.alloc.Global.{Global}
-use Rattle.strc_cli.specs.declared.input.ReadStop.{ReadStop}
-use Rattle.strc_cli.specs.declared.input.ReadStop.TheVariants as stop
-use Rattle.strc_cli.specs.ReadInput.{ReadsNumbers}
-use Rattle.strc_stage.specs.Plans.{PlanParts}
+use Rattle.strc_cli_input.specs.declared.input.ReadStop.{ReadStop}
+use Rattle.strc_cli_input.specs.declared.input.ReadStop.TheVariants as stop
+use Rattle.strc_cli_input.specs.ReadInput.{ReadsNumbers}
+use Rattle.strc_stage_plan.specs.Plans.{PlanParts}
 use Rattle.strc_run.specs.Rounds.{IsRunOf}
 use Rattle.strc_cli.specs.declared.execute.CliError.{CliError}
 use Rattle.strc_cli.specs.declared.execute.CliError.TheVariants as failure
 use Rattle.strc_cli.specs.declared.answer.Answer.{Answer}
 use Rattle.strc_cli.specs.declared.answer.Answer.TheVariants as answer
-use Rattle.strc_output.specs.declared.stop.Stop.{Stop}
-use Rattle.strc_output.specs.declared.stop.Stop.TheVariants as no_answer
+use Rattle.strc_cli_output.specs.declared.stop.Stop.{Stop}
+use Rattle.strc_cli_output.specs.declared.stop.Stop.TheVariants as no_answer
 
 -- the input of a graph with a reader, or of one without
 abbrev pub IsInputOf : (reads : Bool) → (bytes : Option (List ℕ))

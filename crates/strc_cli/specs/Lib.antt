@@ -4,9 +4,4 @@ pub mod Executes
 pub mod Explaining
 pub mod Input
 pub mod Statuses
-pub use Rattle.strc_output.specs.Output
-pub mod Lines
-pub mod Numbers
-pub mod Reading
-pub mod ReadAnswers
-pub mod ReadInput
+pub use Rattle.strc_cli_output.specs.Output

@@ -9,24 +9,24 @@ ghost use Rattle.strc_cli.specs.Explaining.{IsRefusedAt, IsUnrefused};
 ghost use Rattle.strc_cli.specs.Input as spec;
 ghost use Rattle.strc_cli.specs.Input.{IsInputOf, IsRunAnswer};
 
-use crate::device::Source;
-use crate::drawing::{drawn, stages_drawn};
 use crate::execute::CliError;
-use crate::input::{ReadStop, read_numbers};
-use crate::line::Command;
-use crate::words::{BARE_FUSE, BARE_WAYS, BARE_WORKERS};
+use crate::plan_pictures::{drawn, stages_drawn};
 use std::alloc::{AllocError, Global};
 use std::sync::Wait;
 use std::thread::Threads;
-use strc_output::stop::Stop;
-use strc_refusal::placed::PlacedRefusal;
-use strc_ring::Gate;
+use strc_cli_input::device::Source;
+use strc_cli_input::input::{ReadStop, read_numbers};
+use strc_cli_output::stop::Stop;
+use strc_cli_words::line::Command;
+use strc_cli_words::words::{BARE_FUSE, BARE_WAYS, BARE_WORKERS};
 use strc_run::compile::{Plan, compile_or_where};
 use strc_run::laws::{accepted_or_refused, plans_answer_texts};
 use strc_run::options::Options;
 use strc_run::refusal::Refusal;
 use strc_run::run::{Outcome, RunRefusal, reads_input, run};
-use strc_stages::Stage;
+use strc_run_links::Gate;
+use strc_run_refusal::placed_refusal::PlacedRefusal;
+use strc_stage_steps::Stage;
 
 /// What a command asks of an accepted text.
 #[derive(Drop)]

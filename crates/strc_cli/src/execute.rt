@@ -7,18 +7,18 @@ ghost use Rattle.strc_cli.specs.Executes as spec;
 ghost use Rattle.strc_cli.specs.Executes.{Executes, TellsAnswer, Writes, device_of};
 
 use crate::answer::{Answer, answer_to};
-use crate::device::{Sink, Source};
-use crate::line::Command;
 use std::alloc::{AllocError, Global};
 use std::sync::Wait;
 use std::thread::Threads;
-use strc_output::outcome::outcome_text;
-use strc_output::output::{check_text, plan_text, stop_text};
-use strc_output::stop::Stop;
-use strc_ring::Gate;
+use strc_cli_input::device::{Sink, Source};
+use strc_cli_output::outcome::outcome_text;
+use strc_cli_output::output::{check_text, plan_text, stop_text};
+use strc_cli_output::stop::Stop;
+use strc_cli_words::line::Command;
 use strc_run::refusal::Refusal;
 use strc_run::run::{Outcome, RunRefusal};
-use strc_stages::Stage;
+use strc_run_links::Gate;
+use strc_stage_steps::Stage;
 use thiserror::Error;
 
 /// How a call of `execute` went: what the program's exit status tells.

@@ -1,17 +1,17 @@
 -- Where what a body says can't be assembled.
 use Rattle.std.proofs.Common.{◌≡◌, ℤ, true, List, [], ◌∷◌, length, Option, Some, None, is_some}
 use Rattle.std.proofs.Common.{option_map, Result, Ok, Vec, Box, Global, refl, ap, ◌∙◌}
-use Rattle.strc_base.specs.declared.place.Span.{Span}
-use Rattle.strc_syntax.specs.declared.tree.StreamType.{StreamType}
-use Rattle.strc_stream.specs.declared.stream.Stream.{Stream}
-use Rattle.strc_statements.specs.Answers.{IsRefusal}
-use Rattle.strc_statements.specs.Sides.{inputs_in, outputs_in, row_types}
-use Rattle.strc_statements.specs.Splits.{split_view}
-use Rattle.strc_statements.specs.Weights as weights
-use Rattle.strc_statements.specs.Weights.{weighted, loop_weights, loop_splitter, input_written}
-use Rattle.strc_statements.specs.Weights.{output_written, split_dealt, join_dealt}
-use Rattle.strc_statements.specs.declared.error.ElabError.{ElabError}
-use Rattle.strc_statements.specs.declared.weights.Split.{Split}
+use Rattle.strc_lex_names.specs.declared.place.Span.{Span}
+use Rattle.strc_parse_tree.specs.declared.tree.StreamType.{StreamType}
+use Rattle.strc_elab_stream.specs.declared.stream.Stream.{Stream}
+use Rattle.strc_elab_statements.specs.Answers.{IsRefusal}
+use Rattle.strc_elab_statements.specs.Sides.{inputs_in, outputs_in, row_types}
+use Rattle.strc_elab_statements.specs.Splits.{split_view}
+use Rattle.strc_elab_statements.specs.Weights as weights
+use Rattle.strc_elab_statements.specs.Weights.{weighted, loop_weights, loop_splitter, input_written}
+use Rattle.strc_elab_statements.specs.Weights.{output_written, split_dealt, join_dealt}
+use Rattle.strc_elab_statements.specs.declared.error.ElabError.{ElabError}
+use Rattle.strc_elab_statements.specs.declared.weights.Split.{Split}
 use Rattle.strc_elab.specs.Answering.{IsPlaceOf, join_view, part_view}
 use Rattle.strc_elab.specs.Elaboration.{Progress}
 use Rattle.strc_elab.specs.Places.{place_after, ends_place, pipeline_place, splitjoin_place}

@@ -2,22 +2,23 @@
 use Rattle.std.proofs.Common.{◌≡◌, ℕ, ℤ, suc, ◌+◌, ◌-◌, ◌<◌, Bool, cond, List, length, drop, get_or}
 use Rattle.std.proofs.Common.{Option, Some, None, Result, Ok, Bor, Vec, Global, sym, ap, ◌∙◌}
 use Rattle.std.specs.Option.{option_map, option_copied}
-use Rattle.strc_base.specs.Results.{result_and_then}
-use Rattle.strc_syntax.specs.Tree as tree
-use Rattle.strc_syntax.specs.View.{expr_view, stmt_view, block_view}
-use Rattle.strc_syntax.specs.declared.tree.Expr.{Expr}
-use Rattle.strc_syntax.specs.declared.tree.Stmt.{Stmt, Block}
-use Rattle.strc_semantics.specs.Arithmetic.{is_true}
-use Rattle.strc_semantics.specs.Firing.{Variables, block_left, turn_limit}
-use Rattle.strc_semantics.specs.Typing.{TypedNames, names_after}
-use Rattle.strc_syntax.proofs.Blocks.{stmt_view-Block, block_view-drop}
-use Rattle.strc_check.proofs.TypedGrowth.{StandsOn, stands_on_itself, stands_on_after, drop_inner}
-use Rattle.strc_check.proofs.TypedGrowth.{drop_own}
+use Rattle.strc_lex_names.specs.Results.{result_and_then}
+use Rattle.strc_parse_tree.specs.Tree as tree
+use Rattle.strc_parse_tree.specs.View.{expr_view, stmt_view, block_view}
+use Rattle.strc_parse_tree.specs.declared.tree.Expr.{Expr}
+use Rattle.strc_parse_tree.specs.declared.tree.Stmt.{Stmt, Block}
+use Rattle.strc_work_meaning.specs.Arithmetic.{is_true}
+use Rattle.strc_work_meaning.specs.Firing.{Variables, block_left, turn_limit}
+use Rattle.strc_work_meaning.specs.Typing.{TypedNames, names_after}
+use Rattle.strc_parse_tree.proofs.Blocks.{stmt_view-Block, block_view-drop}
+use Rattle.strc_work_rules.proofs.TypedGrowth.{StandsOn, stands_on_itself, stands_on_after}
+use Rattle.strc_work_rules.proofs.TypedGrowth.{drop_inner}
+use Rattle.strc_work_rules.proofs.TypedGrowth.{drop_own}
 use Rattle.strc_elab.specs.Elaboration.{Setting, Progress, inside, stmt_run, stmts_run}
-use Rattle.strc_statements.specs.Answers.{IsRefusal}
+use Rattle.strc_elab_statements.specs.Answers.{IsRefusal}
 use Rattle.strc_elab.specs.Loops.{for_looped, names_after_block}
-use Rattle.strc_statements.specs.declared.error.ElabError.{ElabError}
-use Rattle.strc_statements.proofs.Refusals.{refused_same, first_refused}
+use Rattle.strc_elab_statements.specs.declared.error.ElabError.{ElabError}
+use Rattle.strc_elab_statements.proofs.Refusals.{refused_same, first_refused}
 
 -- ---- names
 

@@ -4,23 +4,24 @@ use Rattle.std.proofs.Common.{length, drop, get_or, Option, Result, Ok, Err, Vec
 use Rattle.std.proofs.Common.{sym, ap, ◌∙◌, add-one}
 use Rattle.std.proofs.Math.Seq.{drop-cons}
 use mathlib.Core.Former.{Count}
-use Rattle.strc_base.specs.declared.place.Span.{Span}
-use Rattle.strc_syntax.specs.View.{stmt_view}
-use Rattle.strc_syntax.specs.declared.tree.StreamType.{StreamType}
-use Rattle.strc_syntax.specs.declared.tree.CompositeKind.{CompositeKind}
-use Rattle.strc_syntax.specs.declared.tree.Member.{Member}
-use Rattle.strc_syntax.specs.declared.tree.Decl.{Decl}
-use Rattle.strc_syntax.specs.declared.tree.Stmt.{Stmt, Block, Block', Row_of-Stmt, end_of-Stmt}
-use Rattle.strc_syntax.specs.declared.tree.Stmt.{more_of-Stmt, items-the_row-Stmt}
-use Rattle.strc_syntax.specs.declared.tree.Stmt.{items_hidden-the_row-Stmt-1}
-use Rattle.strc_syntax.specs.declared.tree.Child.{Child, Filter, Filter', Composite, Row_of-Member}
-use Rattle.strc_syntax.specs.declared.tree.Child.{end_of-Member, more_of-Member}
-use Rattle.strc_syntax.specs.declared.tree.Child.{items-the_row-Member}
-use Rattle.strc_syntax.specs.declared.tree.Child.{items_hidden-the_row-Member-0}
-use Rattle.strc_semantics.specs.Arithmetic.{is_true}
-use Rattle.strc_semantics.specs.Typing.{TypedNames, names_after}
-use Rattle.strc_statements.specs.Answers.{IsRefusal}
-use Rattle.strc_statements.specs.declared.error.ElabError.{ElabError}
+use Rattle.strc_lex_names.specs.declared.place.Span.{Span}
+use Rattle.strc_parse_tree.specs.View.{stmt_view}
+use Rattle.strc_parse_tree.specs.declared.tree.StreamType.{StreamType}
+use Rattle.strc_parse_tree.specs.declared.tree.CompositeKind.{CompositeKind}
+use Rattle.strc_parse_tree.specs.declared.tree.Member.{Member}
+use Rattle.strc_parse_tree.specs.declared.tree.Decl.{Decl}
+use Rattle.strc_parse_tree.specs.declared.tree.Stmt.{Stmt, Block, Block', Row_of-Stmt, end_of-Stmt}
+use Rattle.strc_parse_tree.specs.declared.tree.Stmt.{more_of-Stmt, items-the_row-Stmt}
+use Rattle.strc_parse_tree.specs.declared.tree.Stmt.{items_hidden-the_row-Stmt-1}
+use Rattle.strc_parse_tree.specs.declared.tree.Child.{Child, Filter, Filter', Composite}
+use Rattle.strc_parse_tree.specs.declared.tree.Child.{Row_of-Member}
+use Rattle.strc_parse_tree.specs.declared.tree.Child.{end_of-Member, more_of-Member}
+use Rattle.strc_parse_tree.specs.declared.tree.Child.{items-the_row-Member}
+use Rattle.strc_parse_tree.specs.declared.tree.Child.{items_hidden-the_row-Member-0}
+use Rattle.strc_work_meaning.specs.Arithmetic.{is_true}
+use Rattle.strc_work_meaning.specs.Typing.{TypedNames, names_after}
+use Rattle.strc_elab_statements.specs.Answers.{IsRefusal}
+use Rattle.strc_elab_statements.specs.declared.error.ElabError.{ElabError}
 use Rattle.strc_elab.specs.Answering.{IsPlaceOf}
 use Rattle.strc_elab.specs.Elaboration.{Progress, stmt_run}
 use Rattle.strc_elab.specs.Places.{Tracing, place_after, stmt_trace, row_trace, block_trace}

@@ -1,15 +1,15 @@
 -- Where children are refused.
 use Rattle.std.proofs.Common.{◌≡◌, Option, None, Ok, Vec, Global, ap, ◌∙◌}
-use Rattle.strc_syntax.specs.View.{block_view}
-use Rattle.strc_syntax.specs.declared.tree.StreamType.{StreamType}
-use Rattle.strc_syntax.specs.declared.tree.CompositeKind.{CompositeKind}
-use Rattle.strc_syntax.specs.declared.tree.Member.{Member}
-use Rattle.strc_syntax.specs.declared.tree.Role.{Role}
-use Rattle.strc_syntax.specs.declared.tree.Stmt.{Stmt}
-use Rattle.strc_syntax.specs.declared.tree.Child.{Filter, Composite}
-use Rattle.strc_semantics.specs.Filters.{filter_parts}
-use Rattle.strc_semantics.specs.Typing.{TypedNames}
-use Rattle.strc_statements.specs.Texts.{FilterText, CompositeText}
+use Rattle.strc_parse_tree.specs.View.{block_view}
+use Rattle.strc_parse_tree.specs.declared.tree.StreamType.{StreamType}
+use Rattle.strc_parse_tree.specs.declared.tree.CompositeKind.{CompositeKind}
+use Rattle.strc_parse_tree.specs.declared.tree.Member.{Member}
+use Rattle.strc_parse_tree.specs.declared.tree.Role.{Role}
+use Rattle.strc_parse_tree.specs.declared.tree.Stmt.{Stmt}
+use Rattle.strc_parse_tree.specs.declared.tree.Child.{Filter, Composite}
+use Rattle.strc_work_meaning.specs.Filters.{filter_parts}
+use Rattle.strc_work_meaning.specs.Typing.{TypedNames}
+use Rattle.strc_elab_statements.specs.Texts.{FilterText, CompositeText}
 use Rattle.strc_elab.specs.Elaboration.{Progress, unnamed_found}
 use Rattle.strc_elab.specs.Places.{Tracing, child_trace, found_trace}
 use Rattle.strc_elab.specs.declared.trace.Trace.{Trace}

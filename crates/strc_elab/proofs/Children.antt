@@ -2,28 +2,29 @@
 use Rattle.std.proofs.Common.{◌≡◌, ℕ, false, not, List, [], ◌∷◌, length, map, Vec, Option, Some}
 use Rattle.std.proofs.Common.{None, Result, Err, refl, sym, ap, ◌∙◌, eq-eqb}
 use Rattle.std.specs.declared.alloc.Global.{Global}
-use Rattle.strc_syntax.specs.Tree as tree
-use Rattle.strc_syntax.specs.Tree.{chain}
-use Rattle.strc_syntax.specs.View.{member_view, child_view, block_view}
-use Rattle.strc_syntax.specs.declared.tree.StreamType.{StreamType}
-use Rattle.strc_syntax.specs.declared.tree.CompositeKind.{CompositeKind}
-use Rattle.strc_syntax.specs.declared.tree.Role.{Role}
-use Rattle.strc_syntax.specs.declared.tree.Member.{Member}
-use Rattle.strc_syntax.specs.declared.tree.Stmt.{Stmt}
-use Rattle.strc_syntax.specs.declared.tree.Child.{Filter, Composite}
-use Rattle.strc_syntax.proofs.Views.{child_view_filter, child_view_composite, row_of_views}
-use Rattle.strc_semantics.specs.Filters.{filter_parts}
+use Rattle.strc_parse_tree.specs.Tree as tree
+use Rattle.strc_parse_tree.specs.Tree.{chain}
+use Rattle.strc_parse_tree.specs.View.{member_view, child_view, block_view}
+use Rattle.strc_parse_tree.specs.declared.tree.StreamType.{StreamType}
+use Rattle.strc_parse_tree.specs.declared.tree.CompositeKind.{CompositeKind}
+use Rattle.strc_parse_tree.specs.declared.tree.Role.{Role}
+use Rattle.strc_parse_tree.specs.declared.tree.Member.{Member}
+use Rattle.strc_parse_tree.specs.declared.tree.Stmt.{Stmt}
+use Rattle.strc_parse_tree.specs.declared.tree.Child.{Filter, Composite}
+use Rattle.strc_parse_tree.proofs.Views.{child_view_filter, child_view_composite, row_of_views}
+use Rattle.strc_work_meaning.specs.Filters.{filter_parts}
 use Rattle.strc_elab.specs.Elaboration.{Setting, Progress, Elaborated, Found, child_run, found_run}
 use Rattle.strc_elab.specs.Elaboration.{unnamed_found, named_found, child_added, arguments_given}
 use Rattle.strc_elab.specs.Elaboration.{where_kept, child_found}
-use Rattle.strc_semantics.specs.Typing.{TypedNames}
-use Rattle.strc_statements.specs.Texts.{Constants, FilterText, CompositeText, listed, parameters_of}
-use Rattle.strc_statements.specs.Texts.{is_doubled, text_of}
-use Rattle.strc_statements.specs.declared.error.ElabError.{ElabError}
-use Rattle.strc_statements.specs.declared.error.ElabErrorKind.TheVariants as refused
-use Rattle.strc_base.specs.Results.{result_and_then}
-use Rattle.strc_semantics.specs.Firing as firing
-use Rattle.strc_syntax.specs.declared.tree.Role.TheVariants as roles
+use Rattle.strc_work_meaning.specs.Typing.{TypedNames}
+use Rattle.strc_elab_statements.specs.Texts.{Constants, FilterText, CompositeText, listed}
+use Rattle.strc_elab_statements.specs.Texts.{parameters_of}
+use Rattle.strc_elab_statements.specs.Texts.{is_doubled, text_of}
+use Rattle.strc_elab_statements.specs.declared.error.ElabError.{ElabError}
+use Rattle.strc_elab_statements.specs.declared.error.ElabErrorKind.TheVariants as refused
+use Rattle.strc_lex_names.specs.Results.{result_and_then}
+use Rattle.strc_work_meaning.specs.Firing as firing
+use Rattle.strc_parse_tree.specs.declared.tree.Role.TheVariants as roles
 use Rattle.std.specs.Prelude.{Ok}
 
 listed_chain : (members : List tree.Member) → listed (chain members) ≡ members

@@ -2,30 +2,30 @@
 use Rattle.std.proofs.Common.{◌≡◌, ℕ, ℤ, true, false, List, [], ◌∷◌, length, Option, Some, None}
 use Rattle.std.proofs.Common.{is_some, option_map, Result, Ok, Err, Vec, Box, Global, refl, ap, ◌∙◌}
 use Rattle.std.proofs.Common.{sym}
-use Rattle.strc_syntax.specs.declared.tree.ItemType.{ItemType}
-use Rattle.strc_syntax.specs.declared.tree.StreamType.{StreamType}
-use Rattle.strc_graph.specs.Graphs.{SplitterCode}
-use Rattle.strc_stream.specs.Instances as instances
-use Rattle.strc_stream.specs.Instances.{in_a_row}
-use Rattle.strc_stream.specs.Types.{input_of, output_of}
-use Rattle.strc_stream.specs.View.{stream_view}
-use Rattle.strc_stream.specs.declared.stream.Stream.{Stream}
-use Rattle.strc_statements.specs.Answers.{IsRefusal}
-use Rattle.strc_statements.specs.declared.error.ElabError.{ElabError}
-use Rattle.strc_statements.specs.declared.error.ElabErrorKind.TheVariants as refused
+use Rattle.strc_parse_tree.specs.declared.tree.ItemType.{ItemType}
+use Rattle.strc_parse_tree.specs.declared.tree.StreamType.{StreamType}
+use Rattle.strc_elab_graph.specs.Graphs.{SplitterCode}
+use Rattle.strc_elab_stream.specs.Instances as instances
+use Rattle.strc_elab_stream.specs.Instances.{in_a_row}
+use Rattle.strc_elab_stream.specs.Types.{input_of, output_of}
+use Rattle.strc_elab_stream.specs.View.{stream_view}
+use Rattle.strc_elab_stream.specs.declared.stream.Stream.{Stream}
+use Rattle.strc_elab_statements.specs.Answers.{IsRefusal}
+use Rattle.strc_elab_statements.specs.declared.error.ElabError.{ElabError}
+use Rattle.strc_elab_statements.specs.declared.error.ElabErrorKind.TheVariants as refused
 use Rattle.strc_elab.specs.Answering.{join_view, part_view}
-use Rattle.strc_statements.specs.Splits.{split_view}
+use Rattle.strc_elab_statements.specs.Splits.{split_view}
 use Rattle.strc_elab.specs.Elaboration as spec
 use Rattle.strc_elab.specs.Elaboration.{where_kept, loop_assembly, splitjoin_assembly}
-use Rattle.strc_statements.specs.Written.{is_as_written}
-use Rattle.strc_statements.specs.Sides.{any_side, inputs_in, outputs_in}
+use Rattle.strc_elab_statements.specs.Written.{is_as_written}
+use Rattle.strc_elab_statements.specs.Sides.{any_side, inputs_in, outputs_in}
 use Rattle.strc_elab.specs.Assembly.{elaborated_as}
-use Rattle.strc_statements.specs.Weights as weights
-use Rattle.strc_statements.specs.Weights.{weighted, loop_weights, loop_splitter, input_written}
-use Rattle.strc_statements.specs.Weights.{output_written, split_dealt, join_dealt}
-use Rattle.strc_statements.specs.declared.weights.Split.{Split}
-use Rattle.strc_statements.proofs.Refusals.{first_refused, second_refused, both_done}
-use Rattle.strc_statements.proofs.Refusals.{then_done, refused_same}
+use Rattle.strc_elab_statements.specs.Weights as weights
+use Rattle.strc_elab_statements.specs.Weights.{weighted, loop_weights, loop_splitter, input_written}
+use Rattle.strc_elab_statements.specs.Weights.{output_written, split_dealt, join_dealt}
+use Rattle.strc_elab_statements.specs.declared.weights.Split.{Split}
+use Rattle.strc_elab_statements.proofs.Refusals.{first_refused, second_refused, both_done}
+use Rattle.strc_elab_statements.proofs.Refusals.{then_done, refused_same}
 
 -- split-joins
 pub splitjoin_done : (declaration : ℕ) (written : Option StreamType) (types : List StreamType)

@@ -5,9 +5,9 @@ use Rattle.std.proofs.Math.Seq.{drop-cons}
 use Rattle.std.proofs.Math.ListN.{drop_of_length-le}
 use Rattle.std.specs.Prelude.{bytes_eq}
 use Rattle.std.proofs.lemmas.Slice.Eq.{bytes_eq-Decides}
-use Rattle.strc_base.specs.Names.{has_name, plain_names}
-use Rattle.strc_semantics.specs.Typing.{TypedNames}
-use Rattle.strc_statements.specs.Texts.{is_doubled}
+use Rattle.strc_lex_names.specs.Names.{has_name, plain_names}
+use Rattle.strc_work_meaning.specs.Typing.{TypedNames}
+use Rattle.strc_elab_statements.specs.Texts.{is_doubled}
 
 -- whether one of these names is an earlier one, or occurs twice among them
 abbrev pub doubled_after : (earlier names : List (List ℕ)) → Bool

@@ -2,22 +2,22 @@
 use Rattle.std.proofs.Common.{◌≡◌, ◌+◌, ℕ, zero, suc, Bool, true, false, cond, [], length, Some}
 use Rattle.std.proofs.Common.{Result, Ok, Err, nat_lt, refl, ap}
 use Rattle.std.specs.Int.{int_wrap}
-use Rattle.strc_base.specs.Results.{result_and_then}
-use Rattle.strc_syntax.specs.Tree as tree
-use Rattle.strc_syntax.specs.declared.tree.ItemType.TheVariants.{Void}
-use Rattle.strc_syntax.specs.declared.tree.CompositeKind.TheVariants.{Pipeline}
-use Rattle.strc_semantics.specs.Firing.{turn_limit}
-use Rattle.strc_semantics.specs.Typing.{TypedNames}
-use Rattle.strc_semantics.specs.declared.fault.Cause.TheVariants.{Turns}
-use Rattle.strc_statements.specs.Statements.{computed}
+use Rattle.strc_lex_names.specs.Results.{result_and_then}
+use Rattle.strc_parse_tree.specs.Tree as tree
+use Rattle.strc_parse_tree.specs.declared.tree.ItemType.TheVariants.{Void}
+use Rattle.strc_parse_tree.specs.declared.tree.CompositeKind.TheVariants.{Pipeline}
+use Rattle.strc_work_meaning.specs.Firing.{turn_limit}
+use Rattle.strc_work_meaning.specs.Typing.{TypedNames}
+use Rattle.strc_work_meaning.specs.declared.fault.Cause.TheVariants.{Turns}
+use Rattle.strc_elab_statements.specs.Statements.{computed}
 use Rattle.strc_elab.specs.Elaboration.{Setting, Progress, condition_evaluated, inside, looped}
 use Rattle.strc_elab.specs.Elaboration.{stmt_run, stmts_run, stream_elaborated, initial_progress}
 use Rattle.strc_elab.specs.Elaboration.{composite_assembly, level_limit, filter_limit}
-use Rattle.strc_stream.specs.Instances.{Stream}
+use Rattle.strc_elab_stream.specs.Instances.{Stream}
 use Rattle.strc_elab.specs.Examples.{RecursionRow, EndlessRow, LoopRow, EndlessLoopRow}
 use Rattle.strc_elab.specs.Examples.{endless_loop, both_added, block}
-use Rattle.strc_statements.specs.declared.error.ElabError.{ElabError}
-use Rattle.strc_statements.specs.declared.error.ElabErrorKind.TheVariants.{ConstFault}
+use Rattle.strc_elab_statements.specs.declared.error.ElabError.{ElabError}
+use Rattle.strc_elab_statements.specs.declared.error.ElabErrorKind.TheVariants.{ConstFault}
 
 pub recursion_is : RecursionRow
 unfolding level_limit filter_limit int_wrap

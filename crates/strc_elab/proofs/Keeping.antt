@@ -1,15 +1,16 @@
 -- What a body's stream statements keep, and each change of its variables, its run keeps.
 use Rattle.std.proofs.Common.{ℕ, zero, suc, ℤ, length, Option, Some, None, Result, Ok, IfOk, cond}
-use Rattle.strc_base.specs.Results.{result_and_then}
-use Rattle.strc_base.proofs.Results.{then_ok}
-use Rattle.strc_syntax.specs.Tree as tree
-use Rattle.strc_semantics.specs.Firing.{Store, turn_limit, block_left}
-use Rattle.strc_semantics.specs.Firing as firing
-use Rattle.strc_semantics.specs.Arithmetic.{is_true}
-use Rattle.strc_semantics.specs.Typing.{TypedNames, names_after}
-use Rattle.strc_semantics.specs.declared.types.ValueType.TheVariants as kind
-use Rattle.strc_statements.specs.declared.error.ElabError.{ElabError}
-use Rattle.strc_statements.specs.Statements.{computed, eval_checked, simple_done, declaration_done}
+use Rattle.strc_lex_names.specs.Results.{result_and_then}
+use Rattle.strc_lex_names.proofs.Results.{then_ok}
+use Rattle.strc_parse_tree.specs.Tree as tree
+use Rattle.strc_work_meaning.specs.Firing.{Store, turn_limit, block_left}
+use Rattle.strc_work_meaning.specs.Firing as firing
+use Rattle.strc_work_meaning.specs.Arithmetic.{is_true}
+use Rattle.strc_work_meaning.specs.Typing.{TypedNames, names_after}
+use Rattle.strc_work_meaning.specs.declared.types.ValueType.TheVariants as kind
+use Rattle.strc_elab_statements.specs.declared.error.ElabError.{ElabError}
+use Rattle.strc_elab_statements.specs.Statements.{computed, eval_checked, simple_done}
+use Rattle.strc_elab_statements.specs.Statements.{declaration_done}
 use Rattle.strc_elab.specs.Elaboration.{Setting, Progress, on_store, condition_evaluated, inside}
 use Rattle.strc_elab.specs.Elaboration.{turned, looped, composed, stmt_run, stmts_run}
 use Rattle.strc_elab.proofs.Steps.{any_holds, either_holds}

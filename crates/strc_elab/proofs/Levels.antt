@@ -1,19 +1,19 @@
 -- Streams in one another, level by level.
 use Rattle.std.proofs.Common.{◌≡◌, ℕ, zero, suc, ◌-◌, List, [], map, Result, refl, ap, ◌∙◌}
 use Rattle.std.proofs.Common.{subst, arith}
-use Rattle.strc_syntax.specs.View.{declaration_view}
-use Rattle.strc_syntax.specs.declared.tree.Decl.{Decl}
-use Rattle.strc_syntax.specs.Tree.{Declaration}
+use Rattle.strc_parse_tree.specs.View.{declaration_view}
+use Rattle.strc_parse_tree.specs.declared.tree.Decl.{Decl}
+use Rattle.strc_parse_tree.specs.Tree.{Declaration}
 use Rattle.strc_elab.specs.Elaboration.{Totals, text_elaborated, stream_elaborated, main_elaborated}
 use Rattle.strc_elab.specs.Elaboration.{level_limit}
 use Rattle.strc_elab.specs.Places.{stream_place, text_place, main_place}
 use Rattle.strc_elab.specs.Answering.{IsPlacedVerdict, IsPlaced}
 use Rattle.strc_elab.specs.Sources.{Source, numbered_source, text_source}
 use Rattle.strc_elab.specs.Tasks.{IsTaskVerdict, program_of, place_of, text_view, elaborated_view}
-use Rattle.strc_elab.specs.declared.placed.PlacedError.{PlacedError}
+use Rattle.strc_elab.specs.declared.placed_error.PlacedError.{PlacedError}
 use Rattle.strc_elab.specs.declared.task.Elaborated.{Elaborated}
 use Rattle.strc_elab.specs.declared.task.Task.{Task}
-use Rattle.strc_statements.specs.Texts.{Constants, Place, Text, text_of}
+use Rattle.strc_elab_statements.specs.Texts.{Constants, Place, Text, text_of}
 
 -- a stream that may have a level is what its text makes of the streams of the levels below
 pub stream_elaborated-level : (program : List Declaration) (levels : ℕ) (place : Place)

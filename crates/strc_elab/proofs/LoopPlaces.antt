@@ -1,15 +1,15 @@
 -- Where loops of a body are refused, iteration by iteration.
 use Rattle.std.proofs.Common.{◌≡◌, ℕ, ℤ, suc, ◌+◌, ◌-◌, ◌<◌, ◌≤◌, Bool, true, false, cond}
 use Rattle.std.proofs.Common.{Option, Result, Ok, sym, ap, ◌∙◌, arith}
-use Rattle.strc_base.specs.declared.place.Span.{Span}
-use Rattle.strc_semantics.specs.Arithmetic.{is_true}
-use Rattle.strc_semantics.specs.Firing as firing
-use Rattle.strc_semantics.specs.Firing.{turn_limit}
-use Rattle.strc_semantics.specs.declared.fault.TheConstants.{TURN_LIMIT}
-use Rattle.strc_statements.specs.Answers.{IsRefusal}
-use Rattle.strc_statements.specs.Statements.{computed}
-use Rattle.strc_statements.specs.declared.error.ElabError.{ElabError}
-use Rattle.strc_statements.proofs.Refusals.{first_refused}
+use Rattle.strc_lex_names.specs.declared.place.Span.{Span}
+use Rattle.strc_work_meaning.specs.Arithmetic.{is_true}
+use Rattle.strc_work_meaning.specs.Firing as firing
+use Rattle.strc_work_meaning.specs.Firing.{turn_limit}
+use Rattle.strc_work_meaning.specs.declared.fault.TheConstants.{TURN_LIMIT}
+use Rattle.strc_elab_statements.specs.Answers.{IsRefusal}
+use Rattle.strc_elab_statements.specs.Statements.{computed}
+use Rattle.strc_elab_statements.specs.declared.error.ElabError.{ElabError}
+use Rattle.strc_elab_statements.proofs.Refusals.{first_refused}
 use Rattle.strc_elab.specs.Answering.{IsPlaceOf}
 use Rattle.strc_elab.specs.Elaboration.{Progress, turned}
 use Rattle.strc_elab.specs.Places.{place_after, trace_after, looped_trace}

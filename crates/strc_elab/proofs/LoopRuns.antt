@@ -1,18 +1,18 @@
 -- Loops of a body, iteration by iteration.
 use Rattle.std.proofs.Common.{◌≡◌, ℕ, ℤ, suc, ◌+◌, ◌-◌, ◌<◌, ◌≤◌, true, false, cond, Result, Ok}
 use Rattle.std.proofs.Common.{Err, sym, ap, ◌∙◌, arith}
-use Rattle.strc_base.specs.Results.{result_and_then}
-use Rattle.strc_semantics.specs.Arithmetic.{is_true}
-use Rattle.strc_semantics.specs.Firing as firing
-use Rattle.strc_semantics.specs.Firing.{turn_limit}
-use Rattle.strc_semantics.specs.declared.fault.Cause.TheVariants as causes
-use Rattle.strc_statements.specs.Statements.{computed}
+use Rattle.strc_lex_names.specs.Results.{result_and_then}
+use Rattle.strc_work_meaning.specs.Arithmetic.{is_true}
+use Rattle.strc_work_meaning.specs.Firing as firing
+use Rattle.strc_work_meaning.specs.Firing.{turn_limit}
+use Rattle.strc_work_meaning.specs.declared.fault.Cause.TheVariants as causes
+use Rattle.strc_elab_statements.specs.Statements.{computed}
 use Rattle.strc_elab.specs.Elaboration.{Progress, turned, looped}
-use Rattle.strc_statements.specs.Answers.{IsRefusal}
-use Rattle.strc_statements.specs.declared.error.ElabError.{ElabError}
-use Rattle.strc_statements.specs.declared.error.ElabErrorKind.TheVariants as refused
-use Rattle.strc_statements.proofs.Refusals.{refused_same, first_refused, second_refused}
-use Rattle.strc_semantics.specs.declared.fault.TheConstants.{TURN_LIMIT}
+use Rattle.strc_elab_statements.specs.Answers.{IsRefusal}
+use Rattle.strc_elab_statements.specs.declared.error.ElabError.{ElabError}
+use Rattle.strc_elab_statements.specs.declared.error.ElabErrorKind.TheVariants as refused
+use Rattle.strc_elab_statements.proofs.Refusals.{refused_same, first_refused, second_refused}
+use Rattle.strc_work_meaning.specs.declared.fault.TheConstants.{TURN_LIMIT}
 use Rattle.strc_elab.proofs.Turns.{turn_limit_is}
 
 -- what a loop tests, and what it repeats

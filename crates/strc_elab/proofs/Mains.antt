@@ -3,15 +3,15 @@ use Rattle.std.proofs.Common.{◌≡◌, ℕ, zero, suc, ◌+◌, ◌<◌, nat_e
 use Rattle.std.proofs.Common.{length, map, get_or, Option, Some, None, Result, Ok, slice_get}
 use Rattle.std.proofs.Common.{sym, ap, ◌∙◌, arith, inl, inr}
 use Rattle.std.specs.Cmp.Lexicographic.{pointwise}
-use Rattle.strc_syntax.specs.Tree.{Declaration}
-use Rattle.strc_syntax.specs.declared.tree.Decl.{Decl}
-use Rattle.strc_syntax.specs.View.{declaration_view}
-use Rattle.strc_statements.specs.MainStreams.{can_be_main, mains_from, only_main, named_main}
-use Rattle.strc_statements.specs.MainStreams.{main_of}
-use Rattle.strc_statements.specs.Names.{place_from}
-use Rattle.strc_statements.specs.Texts.{declared_from}
-use Rattle.strc_statements.specs.declared.error.ElabError.{ElabError}
-use Rattle.strc_statements.proofs.NameTables.{either, some_same}
+use Rattle.strc_parse_tree.specs.Tree.{Declaration}
+use Rattle.strc_parse_tree.specs.declared.tree.Decl.{Decl}
+use Rattle.strc_parse_tree.specs.View.{declaration_view}
+use Rattle.strc_elab_statements.specs.MainStreams.{can_be_main, mains_from, only_main, named_main}
+use Rattle.strc_elab_statements.specs.MainStreams.{main_of}
+use Rattle.strc_elab_statements.specs.Names.{place_from}
+use Rattle.strc_elab_statements.specs.Texts.{declared_from}
+use Rattle.strc_elab_statements.specs.declared.error.ElabError.{ElabError}
+use Rattle.strc_elab_statements.proofs.NameTables.{either, some_same}
 use Rattle.strc_elab.specs.Sources.{declaration_source, named_source, numbered_source}
 use Rattle.strc_elab.specs.Sources.{known_source}
 

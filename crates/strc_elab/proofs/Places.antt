@@ -1,10 +1,10 @@
 -- Where refusals of steps are.
 use Rattle.std.proofs.Common.{◌≡◌, Option, Result, Ok, Err, sym, ap, ◌∙◌, subst}
-use Rattle.strc_base.specs.declared.place.Span.{Span}
-use Rattle.strc_semantics.specs.Typing.{TypedNames}
-use Rattle.strc_statements.specs.Answers.{IsRefusal}
-use Rattle.strc_statements.specs.declared.error.ElabError.{ElabError}
-use Rattle.strc_statements.specs.declared.error.ElabErrorKind.TheVariants as refused
+use Rattle.strc_lex_names.specs.declared.place.Span.{Span}
+use Rattle.strc_work_meaning.specs.Typing.{TypedNames}
+use Rattle.strc_elab_statements.specs.Answers.{IsRefusal}
+use Rattle.strc_elab_statements.specs.declared.error.ElabError.{ElabError}
+use Rattle.strc_elab_statements.specs.declared.error.ElabErrorKind.TheVariants as refused
 use Rattle.strc_elab.specs.Answering.{IsPlaceOf, Traces}
 use Rattle.strc_elab.specs.Places.{place_after, trace_after}
 use Rattle.strc_elab.specs.declared.trace.Trace.{Trace}

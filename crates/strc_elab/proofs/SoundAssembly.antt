@@ -2,31 +2,33 @@
 use Rattle.std.proofs.Common.{◌≡◌, ℕ, ℤ, List, [], ◌∷◌, ◌++◌, Option, Some, None, Ok, IfOk, refl}
 use Rattle.std.proofs.Common.{sym, subst}
 use Rattle.std.specs.List.{AllByRecursion}
-use Rattle.strc_syntax.specs.declared.tree.StreamType.{StreamType}
-use Rattle.strc_syntax.specs.declared.tree.CompositeKind.{CompositeKind}
-use Rattle.strc_syntax.specs.declared.tree.CompositeKind.TheVariants as composite
-use Rattle.strc_graph.specs.Graphs as graphs
-use Rattle.strc_graph.specs.Graphs.{SplitterCode}
-use Rattle.strc_stream.specs.Flattening.{nodes_of, row_nodes, splitter_nodes, joiner_nodes}
-use Rattle.strc_stream.specs.Instances.{Stream, in_a_row}
-use Rattle.strc_stream.specs.Instances as instance
-use Rattle.strc_stream.specs.Types.{IsWellTyped, HasFirst, PassesItems, IsSplit, IsJoined, input_of}
-use Rattle.strc_stream.specs.Types.{output_of}
-use Rattle.strc_statements.specs.declared.error.ElabErrorKind.TheVariants as refused
+use Rattle.strc_parse_tree.specs.declared.tree.StreamType.{StreamType}
+use Rattle.strc_parse_tree.specs.declared.tree.CompositeKind.{CompositeKind}
+use Rattle.strc_parse_tree.specs.declared.tree.CompositeKind.TheVariants as composite
+use Rattle.strc_elab_graph.specs.Graphs as graphs
+use Rattle.strc_elab_graph.specs.Graphs.{SplitterCode}
+use Rattle.strc_elab_stream.specs.Flattening.{nodes_of, row_nodes, splitter_nodes, joiner_nodes}
+use Rattle.strc_elab_stream.specs.Instances.{Stream, in_a_row}
+use Rattle.strc_elab_stream.specs.Instances as instance
+use Rattle.strc_elab_stream.specs.Types.{IsWellTyped, HasFirst, PassesItems, IsSplit, IsJoined}
+use Rattle.strc_elab_stream.specs.Types.{input_of}
+use Rattle.strc_elab_stream.specs.Types.{output_of}
+use Rattle.strc_elab_statements.specs.declared.error.ElabErrorKind.TheVariants as refused
 use Rattle.strc_elab.specs.Elaboration.{Progress, Elaborated, as_written}
-use Rattle.strc_statements.specs.Written.{is_as_written}
+use Rattle.strc_elab_statements.specs.Written.{is_as_written}
 use Rattle.strc_elab.specs.Elaboration.{pipeline_assembly, splitjoin_assembly, loop_assembly}
 use Rattle.strc_elab.specs.Elaboration.{composite_assembly}
-use Rattle.strc_statements.specs.Sides.{last_given, inputs_in, outputs_in, any_side}
+use Rattle.strc_elab_statements.specs.Sides.{last_given, inputs_in, outputs_in, any_side}
 use Rattle.strc_elab.specs.Sound.{IsInstance}
-use Rattle.strc_statements.specs.Weights.{Split, weighted, split_dealt, join_dealt, input_written}
-use Rattle.strc_statements.specs.Weights.{output_written, loop_weights, loop_splitter}
+use Rattle.strc_elab_statements.specs.Weights.{Split, weighted, split_dealt, join_dealt}
+use Rattle.strc_elab_statements.specs.Weights.{input_written}
+use Rattle.strc_elab_statements.specs.Weights.{output_written, loop_weights, loop_splitter}
 use Rattle.strc_elab.proofs.Steps.{then_known, kept_holds}
 use Rattle.strc_elab.proofs.SoundRows.{IsSoundStream, AreSound, InARow, append_instances}
 use Rattle.strc_elab.proofs.SoundRows.{row_instances, row_typed, row_gives, each_typed, inputs_are}
 use Rattle.strc_elab.proofs.SoundRows.{outputs_are}
-use Rattle.strc_statements.proofs.WeightsMeet.{split_is, join_is, loop_joins, loop_splits}
-use Rattle.strc_statements.proofs.WeightsMeet.{weighted_is}
+use Rattle.strc_elab_statements.proofs.WeightsMeet.{split_is, join_is, loop_joins, loop_splits}
+use Rattle.strc_elab_statements.proofs.WeightsMeet.{weighted_is}
 
 -- body or loop of a feedback loop, where there is one
 abbrev pub IsPart : Option Stream → Type 0

@@ -1,32 +1,32 @@
 -- A body's stream statements keep what it has given so far sound.
 use Rattle.std.proofs.Common.{◌≡◌, true, [], Some, IfOk}
 use Rattle.std.proofs.Common.{refl, ◌∙◌, subst, unwrap_or}
-use Rattle.strc_syntax.specs.Tree as tree
-use Rattle.strc_syntax.specs.declared.tree.ItemType.{ItemType}
-use Rattle.strc_syntax.specs.declared.tree.ItemType.TheVariants as item
-use Rattle.strc_syntax.specs.declared.tree.StreamType.{StreamType}
-use Rattle.strc_syntax.specs.declared.tree.CompositeKind.{CompositeKind}
-use Rattle.strc_syntax.specs.declared.tree.Role.{Role}
-use Rattle.strc_syntax.specs.declared.tree.Role.TheVariants as role
-use Rattle.strc_semantics.specs.Firing.{Store}
-use Rattle.strc_semantics.specs.Typing.{TypedNames}
-use Rattle.strc_semantics.specs.declared.types.ValueType.TheVariants as value
-use Rattle.strc_stream.specs.Instances.{Stream}
-use Rattle.strc_stream.specs.Types.{is_int}
-use Rattle.strc_statements.specs.declared.error.ElabErrorKind.TheVariants as refused
-use Rattle.strc_statements.specs.Statements.{eval_checked}
-use Rattle.strc_statements.specs.Texts.{Place, Text}
+use Rattle.strc_parse_tree.specs.Tree as tree
+use Rattle.strc_parse_tree.specs.declared.tree.ItemType.{ItemType}
+use Rattle.strc_parse_tree.specs.declared.tree.ItemType.TheVariants as item
+use Rattle.strc_parse_tree.specs.declared.tree.StreamType.{StreamType}
+use Rattle.strc_parse_tree.specs.declared.tree.CompositeKind.{CompositeKind}
+use Rattle.strc_parse_tree.specs.declared.tree.Role.{Role}
+use Rattle.strc_parse_tree.specs.declared.tree.Role.TheVariants as role
+use Rattle.strc_work_meaning.specs.Firing.{Store}
+use Rattle.strc_work_meaning.specs.Typing.{TypedNames}
+use Rattle.strc_work_meaning.specs.declared.types.ValueType.TheVariants as value
+use Rattle.strc_elab_stream.specs.Instances.{Stream}
+use Rattle.strc_elab_stream.specs.Types.{is_int}
+use Rattle.strc_elab_statements.specs.declared.error.ElabErrorKind.TheVariants as refused
+use Rattle.strc_elab_statements.specs.Statements.{eval_checked}
+use Rattle.strc_elab_statements.specs.Texts.{Place, Text}
 use Rattle.strc_elab.specs.Elaboration.{Totals, Elaborated, Setting, Progress, child_found}
 use Rattle.strc_elab.specs.Elaboration.{child_run}
 use Rattle.strc_elab.specs.Elaboration.{child_added, may_add, may_have, may_split}
-use Rattle.strc_statements.specs.Sides.{passes_items}
+use Rattle.strc_elab_statements.specs.Sides.{passes_items}
 use Rattle.strc_elab.specs.Elaboration.{may_join, is_loop, splitter_evaluated, values_evaluated}
 use Rattle.strc_elab.specs.Elaboration.{composed}
 use Rattle.strc_elab.proofs.Keeping.{Keeps}
 use Rattle.strc_elab.proofs.SoundAssembly.{IsPart, IsSound, IsSoundlyElaborated}
 use Rattle.strc_elab.proofs.SoundRows.{IsSoundStream, one_more_sound, one_more_in_a_row}
 use Rattle.strc_elab.proofs.Steps.{any_holds, kept_holds, both_true}
-use Rattle.strc_base.proofs.Results.{then_ok}
+use Rattle.strc_lex_names.proofs.Results.{then_ok}
 
 -- what elaborates the streams one level below makes sound ones
 abbrev pub MakesSound : Setting → Type 0

@@ -2,18 +2,18 @@
 -- in a row or side by side.
 use Rattle.std.proofs.Common.{◌≡◌, List, [], ◌∷◌, ◌++◌, true, refl, sym, ap, ◌∙◌}
 use Rattle.std.specs.List.{AllByRecursion}
-use Rattle.strc_syntax.specs.declared.tree.ItemType.{ItemType}
-use Rattle.strc_syntax.specs.declared.tree.ItemType.TheVariants as item
-use Rattle.strc_syntax.specs.declared.tree.StreamType.{StreamType}
-use Rattle.strc_graph.specs.Graphs as graphs
-use Rattle.strc_stream.specs.Flattening.{nodes_of, row_nodes}
-use Rattle.strc_stream.specs.Instances.{Stream, in_a_row}
-use Rattle.strc_stream.specs.Types.{IsWellTyped, AreWellTyped, AreEach, input_of}
-use Rattle.strc_stream.specs.Types.{output_of}
-use Rattle.strc_stream.specs.Types.{inputs_of, outputs_of, last_output}
+use Rattle.strc_parse_tree.specs.declared.tree.ItemType.{ItemType}
+use Rattle.strc_parse_tree.specs.declared.tree.ItemType.TheVariants as item
+use Rattle.strc_parse_tree.specs.declared.tree.StreamType.{StreamType}
+use Rattle.strc_elab_graph.specs.Graphs as graphs
+use Rattle.strc_elab_stream.specs.Flattening.{nodes_of, row_nodes}
+use Rattle.strc_elab_stream.specs.Instances.{Stream, in_a_row}
+use Rattle.strc_elab_stream.specs.Types.{IsWellTyped, AreWellTyped, AreEach, input_of}
+use Rattle.strc_elab_stream.specs.Types.{output_of}
+use Rattle.strc_elab_stream.specs.Types.{inputs_of, outputs_of, last_output}
 use Rattle.strc_elab.specs.Elaboration.{follows}
-use Rattle.strc_statements.specs.Written.{same_item}
-use Rattle.strc_statements.specs.Sides.{last_given, inputs_in, outputs_in}
+use Rattle.strc_elab_statements.specs.Written.{same_item}
+use Rattle.strc_elab_statements.specs.Sides.{last_given, inputs_in, outputs_in}
 use Rattle.strc_elab.specs.Sound.{IsInstance}
 
 -- what is made: a well-typed stream of instances, with its types

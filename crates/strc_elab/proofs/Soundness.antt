@@ -4,53 +4,54 @@ use Rattle.std.proofs.Common.{◌≡◌, ℕ, zero, suc, ◌+◌, ℤ, Bool, tru
 use Rattle.std.proofs.Common.{Option, Some, None, Result, Ok, Err, IfOk, cond, nat_lt, nat_eq, refl}
 use Rattle.std.proofs.Common.{sym, ap, ◌∙◌, subst}
 use Rattle.std.specs.List.{AllByRecursion}
-use Rattle.strc_syntax.specs.Tree as tree
-use Rattle.strc_syntax.specs.Tree.{Declaration}
-use Rattle.strc_syntax.specs.declared.tree.ItemType.TheVariants as item
-use Rattle.strc_syntax.specs.declared.tree.StreamType.{StreamType}
-use Rattle.strc_syntax.specs.declared.tree.CompositeKind.{CompositeKind}
-use Rattle.strc_syntax.specs.declared.tree.CompositeKind.TheVariants as composite
-use Rattle.strc_semantics.specs.Filters.{Filter}
-use Rattle.strc_semantics.specs.Firing.{started}
-use Rattle.strc_semantics.specs.declared.fault.Cause.{Cause}
-use Rattle.strc_check.specs.Resolution.{filter_resolved}
-use Rattle.strc_check.specs.declared.error.LowerError.{LowerError}
-use Rattle.strc_check.proofs.Resolving.{resolved_types}
-use Rattle.strc_statements.specs.declared.error.ElabError.{ElabError}
-use Rattle.strc_statements.specs.declared.error.ElabErrorKind.TheVariants as refused
-use Rattle.strc_statements.specs.Statements.{ruled}
-use Rattle.strc_statements.specs.Texts.{Place, Text, FilterText, CompositeText, IdentityText}
-use Rattle.strc_statements.specs.Texts.{ReaderText}
-use Rattle.strc_statements.specs.Texts.{WriterText, text_of, parameters_of, declared_from}
-use Rattle.strc_stream.specs.Flattening.{nodes_of}
-use Rattle.strc_stream.specs.Instances.{Stream}
-use Rattle.strc_stream.specs.Instances as instance
-use Rattle.strc_stream.specs.Types.{IsWellTyped}
+use Rattle.strc_parse_tree.specs.Tree as tree
+use Rattle.strc_parse_tree.specs.Tree.{Declaration}
+use Rattle.strc_parse_tree.specs.declared.tree.ItemType.TheVariants as item
+use Rattle.strc_parse_tree.specs.declared.tree.StreamType.{StreamType}
+use Rattle.strc_parse_tree.specs.declared.tree.CompositeKind.{CompositeKind}
+use Rattle.strc_parse_tree.specs.declared.tree.CompositeKind.TheVariants as composite
+use Rattle.strc_work_meaning.specs.Filters.{Filter}
+use Rattle.strc_work_meaning.specs.Firing.{started}
+use Rattle.strc_work_meaning.specs.declared.fault.Cause.{Cause}
+use Rattle.strc_work_rules.specs.Resolution.{filter_resolved}
+use Rattle.strc_work_rules.specs.declared.error.LowerError.{LowerError}
+use Rattle.strc_work_rules.proofs.Resolving.{resolved_types}
+use Rattle.strc_elab_statements.specs.declared.error.ElabError.{ElabError}
+use Rattle.strc_elab_statements.specs.declared.error.ElabErrorKind.TheVariants as refused
+use Rattle.strc_elab_statements.specs.Statements.{ruled}
+use Rattle.strc_elab_statements.specs.Texts.{Place, Text, FilterText, CompositeText, IdentityText}
+use Rattle.strc_elab_statements.specs.Texts.{ReaderText}
+use Rattle.strc_elab_statements.specs.Texts.{WriterText, text_of, parameters_of, declared_from}
+use Rattle.strc_elab_stream.specs.Flattening.{nodes_of}
+use Rattle.strc_elab_stream.specs.Instances.{Stream}
+use Rattle.strc_elab_stream.specs.Instances as instance
+use Rattle.strc_elab_stream.specs.Types.{IsWellTyped}
 use Rattle.strc_elab.specs.Elaboration.{filter_limit, Totals, Elaborated, Setting, Progress}
 use Rattle.strc_elab.specs.Elaboration.{stmts_run, started_as, instance_of}
-use Rattle.strc_statements.specs.Written.{same_item}
+use Rattle.strc_elab_statements.specs.Written.{same_item}
 use Rattle.strc_elab.specs.Elaboration.{initial_progress, as_written, pipeline_assembly}
-use Rattle.strc_statements.specs.Written.{is_as_written}
+use Rattle.strc_elab_statements.specs.Written.{is_as_written}
 use Rattle.strc_elab.specs.Elaboration.{splitjoin_assembly, loop_assembly, composite_assembly}
-use Rattle.strc_statements.specs.Sides.{inputs_in}
+use Rattle.strc_elab_statements.specs.Sides.{inputs_in}
 use Rattle.strc_elab.specs.Elaboration.{composite_elaborated, given_elaborated}
-use Rattle.strc_statements.specs.Sides.{outputs_in}
+use Rattle.strc_elab_statements.specs.Sides.{outputs_in}
 use Rattle.strc_elab.specs.Elaboration.{text_elaborated, stream_elaborated, level_limit}
-use Rattle.strc_statements.specs.MainStreams.{types_of}
-use Rattle.strc_statements.specs.MainStreams.{can_be_main, mains_from, only_main, named_main}
-use Rattle.strc_statements.specs.MainStreams.{main_of}
+use Rattle.strc_elab_statements.specs.MainStreams.{types_of}
+use Rattle.strc_elab_statements.specs.MainStreams.{can_be_main, mains_from, only_main, named_main}
+use Rattle.strc_elab_statements.specs.MainStreams.{main_of}
 use Rattle.strc_elab.specs.Elaboration.{main_elaborated, elaborated}
-use Rattle.strc_statements.specs.MainStreams.{not_doubled, doubled_from}
+use Rattle.strc_elab_statements.specs.MainStreams.{not_doubled, doubled_from}
 use Rattle.strc_elab.specs.Sound.{IsInstance, IsElaborated}
-use Rattle.strc_statements.specs.Weights.{Split, weighted, split_dealt, join_dealt, input_written}
-use Rattle.strc_statements.specs.Weights.{output_written, loop_weights, loop_splitter}
+use Rattle.strc_elab_statements.specs.Weights.{Split, weighted, split_dealt, join_dealt}
+use Rattle.strc_elab_statements.specs.Weights.{input_written}
+use Rattle.strc_elab_statements.specs.Weights.{output_written, loop_weights, loop_splitter}
 use Rattle.strc_elab.proofs.Keeping.{stmts_kept}
 use Rattle.strc_elab.proofs.SoundBodies.{MakesSound, keeps_sound}
 use Rattle.strc_elab.proofs.SoundAssembly.{IsSound, IsSoundlyElaborated, composite_sound}
 use Rattle.strc_elab.proofs.SoundRows.{items_same}
 use Rattle.strc_elab.proofs.Steps.{then_known, then_did, any_holds, kept_holds}
 use Rattle.strc_elab.proofs.Steps.{both_true}
-use Rattle.strc_base.proofs.Results.{then_ok, both_ok}
+use Rattle.strc_lex_names.proofs.Results.{then_ok, both_ok}
 
 -- instances
 

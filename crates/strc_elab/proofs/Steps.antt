@@ -1,7 +1,7 @@
 -- What holds of the answers of steps, one after another.
 use Rattle.std.proofs.Common.{◌≡◌, Bool, true, false, ◌&&◌, Result, Ok, Err, IfOk, cond, refl}
-use Rattle.strc_base.specs.Results.{result_and_then}
-use Rattle.strc_statements.specs.declared.error.ElabError.{ElabError}
+use Rattle.strc_lex_names.specs.Results.{result_and_then}
+use Rattle.strc_elab_statements.specs.declared.error.ElabError.{ElabError}
 use Rattle.strc_elab.specs.Elaboration.{where_kept}
 
 pub then_known : {A B : Type 0} (r : Result A ElabError) (go : A → Result B ElabError)

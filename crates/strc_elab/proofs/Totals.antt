@@ -1,9 +1,9 @@
 -- How many filters there are.
 use Rattle.std.proofs.Common.{◌≡◌, ◌<◌, ◌≤◌, ◌+◌, true, false, Ok, Err, refl, arith, nat_lt}
 use Rattle.std.proofs.lemmas.Bool.{lt-ltb, le-ltb}
-use Rattle.strc_graph.specs.declared.graph.TheConstants.{NODE_LIMIT}
+use Rattle.strc_elab_graph.specs.declared.graph.TheConstants.{NODE_LIMIT}
 use Rattle.strc_elab.specs.Elaboration.{Totals, filter_limit, one_more}
-use Rattle.strc_statements.specs.declared.error.ElabErrorKind.TheVariants.{NodeLimit}
+use Rattle.strc_elab_statements.specs.declared.error.ElabErrorKind.TheVariants.{NodeLimit}
 
 filter_limit_is : filter_limit ≡ NODE_LIMIT
 unfolding filter_limit

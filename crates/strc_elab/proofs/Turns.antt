@@ -1,9 +1,9 @@
 -- The iterations of loops.
 use Rattle.std.proofs.Common.{◌≡◌, ◌<◌, ◌≤◌, ◌+◌, true, false, Ok, Err, refl, arith, nat_lt}
 use Rattle.std.proofs.lemmas.Bool.{lt-ltb, le-ltb}
-use Rattle.strc_semantics.specs.declared.fault.Cause.TheVariants.{Turns}
-use Rattle.strc_semantics.specs.declared.fault.TheConstants.{TURN_LIMIT}
-use Rattle.strc_semantics.specs.Firing.{Store, turned, turn_limit}
+use Rattle.strc_work_meaning.specs.declared.fault.Cause.TheVariants.{Turns}
+use Rattle.strc_work_meaning.specs.declared.fault.TheConstants.{TURN_LIMIT}
+use Rattle.strc_work_meaning.specs.Firing.{Store, turned, turn_limit}
 
 pub turn_limit_is : turn_limit ≡ TURN_LIMIT
 unfolding turn_limit

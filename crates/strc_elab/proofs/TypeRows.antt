@@ -1,9 +1,9 @@
 -- What a child that is added follows.
 use Rattle.std.proofs.Common.{◌≡◌, suc, ◌-◌, ◌≤◌, List, [], ◌∷◌, length, get_or}
 use Rattle.std.proofs.Common.{refl, ap, ◌∙◌, arith}
-use Rattle.strc_syntax.specs.declared.tree.StreamType.{StreamType}
+use Rattle.strc_parse_tree.specs.declared.tree.StreamType.{StreamType}
 use Rattle.strc_elab.specs.Elaboration.{follows}
-use Rattle.strc_statements.specs.Written.{same_item}
+use Rattle.strc_elab_statements.specs.Written.{same_item}
 
 -- one more takes what the last one gives
 pub follows_last : (types : List StreamType) (next other : StreamType) → 1 ≤ length types

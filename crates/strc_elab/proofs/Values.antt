@@ -2,16 +2,16 @@
 use Rattle.std.proofs.Common.{◌≡◌, ◌∙◌, sym, ap, ℕ, ℤ, ◌+◌, ◌<◌, List, [], ◌∷◌, ◌++◌, length, drop}
 use Rattle.std.proofs.Common.{map, get_or, Result, Ok}
 use Rattle.std.proofs.lemmas.List.{drop_more}
-use Rattle.strc_base.proofs.Lists.{map-drop}
-use Rattle.strc_base.specs.Results.{result_and_then}
-use Rattle.strc_syntax.specs.View.{expr_view}
-use Rattle.strc_syntax.specs.declared.tree.Expr.{Expr}
-use Rattle.strc_semantics.specs.Firing.{Store}
-use Rattle.strc_semantics.specs.Typing.{TypedNames}
-use Rattle.strc_semantics.specs.declared.types.ValueType.TheVariants as kind
-use Rattle.strc_statements.specs.Statements.{eval_checked}
-use Rattle.strc_statements.specs.Texts.{Constants}
-use Rattle.strc_statements.specs.declared.error.ElabError.{ElabError}
+use Rattle.strc_lex_names.proofs.Lists.{map-drop}
+use Rattle.strc_lex_names.specs.Results.{result_and_then}
+use Rattle.strc_parse_tree.specs.View.{expr_view}
+use Rattle.strc_parse_tree.specs.declared.tree.Expr.{Expr}
+use Rattle.strc_work_meaning.specs.Firing.{Store}
+use Rattle.strc_work_meaning.specs.Typing.{TypedNames}
+use Rattle.strc_work_meaning.specs.declared.types.ValueType.TheVariants as kind
+use Rattle.strc_elab_statements.specs.Statements.{eval_checked}
+use Rattle.strc_elab_statements.specs.Texts.{Constants}
+use Rattle.strc_elab_statements.specs.declared.error.ElabError.{ElabError}
 use Rattle.strc_elab.specs.Elaboration.{Setting, values_evaluated, arguments_given}
 
 module _ (setting : Setting) (names : TypedNames) (before after : Store) (value : ℤ) where

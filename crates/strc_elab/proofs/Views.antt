@@ -2,17 +2,17 @@
 use Rattle.std.proofs.Common.{◌≡◌, ℕ, ℤ, List, [], ◌∷◌, map, Option, Vec, Box, Global, refl, ap}
 use Rattle.std.proofs.Common.{◌∙◌, option_map}
 use mathlib.Core.Former.{Count}
-use Rattle.strc_syntax.specs.declared.tree.StreamType.{StreamType}
-use Rattle.strc_graph.specs.declared.graph.Splitter.{Splitter}
-use Rattle.strc_graph.specs.NodeView.{splitter_view}
-use Rattle.strc_stream.specs.declared.stream.Stream.{Stream, Row_of-Stream, end_of-Stream}
-use Rattle.strc_stream.specs.declared.stream.Stream.{more_of-Stream, items-the_row-Stream}
-use Rattle.strc_stream.specs.declared.stream.Stream.{items_hidden-the_row-Stream-0, Pipeline'}
-use Rattle.strc_stream.specs.declared.stream.Stream.{SplitJoin'}
-use Rattle.strc_stream.specs.declared.stream.Stream.{Pipeline, SplitJoin, FeedbackLoop}
-use Rattle.strc_stream.specs.Instances as instances
-use Rattle.strc_stream.specs.Instances.{in_a_row}
-use Rattle.strc_stream.specs.View.{stream_view, row_view, streams_view}
+use Rattle.strc_parse_tree.specs.declared.tree.StreamType.{StreamType}
+use Rattle.strc_elab_graph.specs.declared.graph.Splitter.{Splitter}
+use Rattle.strc_elab_graph.specs.NodeView.{splitter_view}
+use Rattle.strc_elab_stream.specs.declared.stream.Stream.{Stream, Row_of-Stream, end_of-Stream}
+use Rattle.strc_elab_stream.specs.declared.stream.Stream.{more_of-Stream, items-the_row-Stream}
+use Rattle.strc_elab_stream.specs.declared.stream.Stream.{items_hidden-the_row-Stream-0, Pipeline'}
+use Rattle.strc_elab_stream.specs.declared.stream.Stream.{SplitJoin'}
+use Rattle.strc_elab_stream.specs.declared.stream.Stream.{Pipeline, SplitJoin, FeedbackLoop}
+use Rattle.strc_elab_stream.specs.Instances as instances
+use Rattle.strc_elab_stream.specs.Instances.{in_a_row}
+use Rattle.strc_elab_stream.specs.View.{stream_view, row_view, streams_view}
 use Rattle.strc_elab.specs.Elaboration.{Elaborated}
 
 -- a stream of these types, with its totals

@@ -2,24 +2,24 @@
 use Rattle.std.specs.Prelude.{◌≡◌, ℤ, List, map, Option, Result, Ok, Err, Vec, Box}
 use Rattle.std.specs.Option.{option_map, option_or}
 use Rattle.std.specs.declared.alloc.Global.{Global}
-use Rattle.strc_semantics.specs.Firing as firing
+use Rattle.strc_work_meaning.specs.Firing as firing
 use Rattle.strc_elab.specs.Elaboration as spec
-use Rattle.strc_statements.specs.Weights as weights
-use Rattle.strc_statements.specs.Saying.{store_of}
-use Rattle.strc_statements.specs.Texts.{Constants}
-use Rattle.strc_stream.specs.Instances as instances
-use Rattle.strc_stream.specs.View.{stream_view}
-use Rattle.strc_stream.specs.declared.stream.Stream.{Stream}
-use Rattle.strc_statements.specs.declared.error.ElabError.{ElabError}
-use Rattle.strc_statements.specs.declared.error.ElabErrorKind.TheVariants.{NoMemory}
-use Rattle.strc_elab.specs.declared.placed.PlacedError.{PlacedError}
+use Rattle.strc_elab_statements.specs.Weights as weights
+use Rattle.strc_elab_statements.specs.Saying.{store_of}
+use Rattle.strc_elab_statements.specs.Texts.{Constants}
+use Rattle.strc_elab_stream.specs.Instances as instances
+use Rattle.strc_elab_stream.specs.View.{stream_view}
+use Rattle.strc_elab_stream.specs.declared.stream.Stream.{Stream}
+use Rattle.strc_elab_statements.specs.declared.error.ElabError.{ElabError}
+use Rattle.strc_elab_statements.specs.declared.error.ElabErrorKind.TheVariants.{NoMemory}
+use Rattle.strc_elab.specs.declared.placed_error.PlacedError.{PlacedError}
 use Rattle.strc_elab.specs.declared.progress.Progress.{Progress}
 use Rattle.strc_elab.specs.declared.trace.Trace.{Trace}
 use Rattle.strc_elab.specs.declared.task.Elaborated.{Elaborated}
-use Rattle.strc_base.specs.declared.place.Span.{Span}
-use Rattle.strc_statements.specs.Splits.{split_view}
-use Rattle.strc_statements.specs.declared.weights.Split.{Split}
-use Rattle.strc_statements.specs.Answers.{IsRefusal}
+use Rattle.strc_lex_names.specs.declared.place.Span.{Span}
+use Rattle.strc_elab_statements.specs.Splits.{split_view}
+use Rattle.strc_elab_statements.specs.declared.weights.Split.{Split}
+use Rattle.strc_elab_statements.specs.Answers.{IsRefusal}
 
 -- the weights of a `join`
 abbrev pub join_view : Option (Vec ℤ Global) → Option (List ℤ)

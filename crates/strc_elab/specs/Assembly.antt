@@ -1,11 +1,11 @@
 -- What is made of a body that has run, as contracts speak of it.
 use Rattle.std.specs.Prelude.{◌≡◌, ℕ, List, Some}
-use Rattle.strc_syntax.specs.declared.tree.StreamType.{StreamType}
-use Rattle.strc_graph.specs.Graphs.{SplitterCode}
-use Rattle.strc_stream.specs.Instances as instances
-use Rattle.strc_stream.specs.Instances.{FeedbackLoop}
-use Rattle.strc_stream.specs.View.{stream_view}
-use Rattle.strc_stream.specs.declared.stream.Stream.{Stream}
+use Rattle.strc_parse_tree.specs.declared.tree.StreamType.{StreamType}
+use Rattle.strc_elab_graph.specs.Graphs.{SplitterCode}
+use Rattle.strc_elab_stream.specs.Instances as instances
+use Rattle.strc_elab_stream.specs.Instances.{FeedbackLoop}
+use Rattle.strc_elab_stream.specs.View.{stream_view}
+use Rattle.strc_elab_stream.specs.declared.stream.Stream.{Stream}
 use Rattle.strc_elab.specs.Elaboration as spec
 use Rattle.strc_elab.specs.Answering.{progress_of, part_view}
 use Rattle.strc_elab.specs.declared.progress.Progress.{Progress}

@@ -5,43 +5,45 @@ use Rattle.std.specs.Prelude.{ℕ, zero, suc, ◌+◌, ℤ, pos, Bool, true, fal
 use Rattle.std.specs.Prelude.{nat_eq, List, [], ◌∷◌, ◌++◌, length, Option, Some, None}
 use Rattle.std.specs.Prelude.{unwrap_or}
 use Rattle.std.specs.Prelude.{Result, Ok, Err, if◌then◌else◌}
-use Rattle.strc_base.specs.Results.{result_and_then}
-use Rattle.strc_syntax.specs.Tree as tree
-use Rattle.strc_syntax.specs.Tree.{Declaration}
-use Rattle.strc_syntax.specs.declared.tree.StreamType.{StreamType}
-use Rattle.strc_syntax.specs.declared.tree.CompositeKind.{CompositeKind}
-use Rattle.strc_syntax.specs.declared.tree.CompositeKind.TheVariants as composite
-use Rattle.strc_syntax.specs.declared.tree.Role.{Role}
-use Rattle.strc_syntax.specs.declared.tree.Role.TheVariants as role
-use Rattle.strc_graph.specs.declared.graph.TheConstants.{NODE_LIMIT}
+use Rattle.strc_lex_names.specs.Results.{result_and_then}
+use Rattle.strc_parse_tree.specs.Tree as tree
+use Rattle.strc_parse_tree.specs.Tree.{Declaration}
+use Rattle.strc_parse_tree.specs.declared.tree.StreamType.{StreamType}
+use Rattle.strc_parse_tree.specs.declared.tree.CompositeKind.{CompositeKind}
+use Rattle.strc_parse_tree.specs.declared.tree.CompositeKind.TheVariants as composite
+use Rattle.strc_parse_tree.specs.declared.tree.Role.{Role}
+use Rattle.strc_parse_tree.specs.declared.tree.Role.TheVariants as role
+use Rattle.strc_elab_graph.specs.declared.graph.TheConstants.{NODE_LIMIT}
 use Rattle.strc_elab.specs.declared.elaborate.TheConstants.{LEVEL_LIMIT}
-use Rattle.strc_semantics.specs.Filters.{Filter}
-use Rattle.strc_semantics.specs.Arithmetic.{is_true}
-use Rattle.strc_semantics.specs.Firing as firing
-use Rattle.strc_semantics.specs.Firing.{Store, block_left, no_traffic, started, turn_limit}
-use Rattle.strc_check.specs.Resolution.{filter_resolved}
-use Rattle.strc_semantics.specs.Typing.{TypedNames, names_after}
-use Rattle.strc_semantics.specs.declared.fault.Cause.{Cause}
-use Rattle.strc_semantics.specs.declared.fault.Cause.TheVariants as causes
-use Rattle.strc_semantics.specs.declared.types.ValueType.TheVariants as kind
-use Rattle.strc_statements.specs.Weights.{Split, ToEach, InTurn, weighted, split_dealt, join_dealt}
-use Rattle.strc_statements.specs.Weights.{input_written, output_written, loop_weights}
-use Rattle.strc_statements.specs.Weights.{loop_splitter}
-use Rattle.strc_statements.specs.MainStreams.{doubled_from, not_doubled, main_of}
-use Rattle.strc_statements.specs.Written.{same_item, is_as_written}
-use Rattle.strc_statements.specs.Sides.{passes_items, last_given, inputs_in}
-use Rattle.strc_statements.specs.Sides.{outputs_in, any_side}
-use Rattle.strc_stream.specs.Instances.{Stream, in_a_row}
-use Rattle.strc_stream.specs.Instances as instance
-use Rattle.strc_stream.specs.Types.{input_of, output_of}
-use Rattle.strc_statements.specs.Texts.{Constants, Place, Text, FilterText, CompositeText}
-use Rattle.strc_statements.specs.Texts.{IdentityText}
-use Rattle.strc_statements.specs.Texts.{ReaderText, WriterText, anonymous, text_of, parameters_of}
-use Rattle.strc_statements.specs.Texts.{is_doubled, declared_from, captures}
-use Rattle.strc_statements.specs.declared.error.ElabError.{ElabError}
-use Rattle.strc_statements.specs.declared.error.ElabErrorKind.TheVariants as refused
-use Rattle.strc_statements.specs.Statements.{ruled, computed, eval_checked, simple_done}
-use Rattle.strc_statements.specs.Statements.{declaration_done}
+use Rattle.strc_work_meaning.specs.Filters.{Filter}
+use Rattle.strc_work_meaning.specs.Arithmetic.{is_true}
+use Rattle.strc_work_meaning.specs.Firing as firing
+use Rattle.strc_work_meaning.specs.Firing.{Store, block_left, no_traffic, started, turn_limit}
+use Rattle.strc_work_rules.specs.Resolution.{filter_resolved}
+use Rattle.strc_work_meaning.specs.Typing.{TypedNames, names_after}
+use Rattle.strc_work_meaning.specs.declared.fault.Cause.{Cause}
+use Rattle.strc_work_meaning.specs.declared.fault.Cause.TheVariants as causes
+use Rattle.strc_work_meaning.specs.declared.types.ValueType.TheVariants as kind
+use Rattle.strc_elab_statements.specs.Weights.{Split, ToEach, InTurn, weighted, split_dealt}
+use Rattle.strc_elab_statements.specs.Weights.{join_dealt}
+use Rattle.strc_elab_statements.specs.Weights.{input_written, output_written, loop_weights}
+use Rattle.strc_elab_statements.specs.Weights.{loop_splitter}
+use Rattle.strc_elab_statements.specs.MainStreams.{doubled_from, not_doubled, main_of}
+use Rattle.strc_elab_statements.specs.Written.{same_item, is_as_written}
+use Rattle.strc_elab_statements.specs.Sides.{passes_items, last_given, inputs_in}
+use Rattle.strc_elab_statements.specs.Sides.{outputs_in, any_side}
+use Rattle.strc_elab_stream.specs.Instances.{Stream, in_a_row}
+use Rattle.strc_elab_stream.specs.Instances as instance
+use Rattle.strc_elab_stream.specs.Types.{input_of, output_of}
+use Rattle.strc_elab_statements.specs.Texts.{Constants, Place, Text, FilterText, CompositeText}
+use Rattle.strc_elab_statements.specs.Texts.{IdentityText}
+use Rattle.strc_elab_statements.specs.Texts.{ReaderText, WriterText, anonymous, text_of}
+use Rattle.strc_elab_statements.specs.Texts.{parameters_of}
+use Rattle.strc_elab_statements.specs.Texts.{is_doubled, declared_from, captures}
+use Rattle.strc_elab_statements.specs.declared.error.ElabError.{ElabError}
+use Rattle.strc_elab_statements.specs.declared.error.ElabErrorKind.TheVariants as refused
+use Rattle.strc_elab_statements.specs.Statements.{ruled, computed, eval_checked, simple_done}
+use Rattle.strc_elab_statements.specs.Statements.{declaration_done}
 
 -- goes on where a rule is kept
 abbrev pub where_kept : {A : Type 0} → Bool → ElabError → Result A ElabError → Result A ElabError

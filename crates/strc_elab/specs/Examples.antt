@@ -1,19 +1,20 @@
 -- Small programs, and what they mean.
 use Rattle.std.specs.Prelude.{◌≡◌, ℕ, ℤ, pos, true, List, [], ◌∷◌, Option, Some, None, Ok, Err}
-use Rattle.strc_syntax.specs.Tree as tree
-use Rattle.strc_syntax.specs.Tree.{Declaration}
-use Rattle.strc_syntax.specs.declared.tree.ItemType.{ItemType}
-use Rattle.strc_syntax.specs.declared.tree.ItemType.TheVariants.{Int, Void}
-use Rattle.strc_syntax.specs.declared.tree.CompositeKind.TheVariants as composite
-use Rattle.strc_syntax.specs.declared.tree.RateKind.TheVariants as rate
-use Rattle.strc_syntax.specs.declared.tree.Role.TheVariants.{Add}
-use Rattle.strc_syntax.specs.declared.tree.BinaryOperator.TheVariants as binary
-use Rattle.strc_syntax.specs.declared.tree.StepOperator.TheVariants as step
-use Rattle.strc_semantics.specs.declared.fault.Cause.TheVariants.{Turns}
+use Rattle.strc_parse_tree.specs.Tree as tree
+use Rattle.strc_parse_tree.specs.Tree.{Declaration}
+use Rattle.strc_parse_tree.specs.declared.tree.ItemType.{ItemType}
+use Rattle.strc_parse_tree.specs.declared.tree.ItemType.TheVariants.{Int, Void}
+use Rattle.strc_parse_tree.specs.declared.tree.CompositeKind.TheVariants as composite
+use Rattle.strc_parse_tree.specs.declared.tree.RateKind.TheVariants as rate
+use Rattle.strc_parse_tree.specs.declared.tree.Role.TheVariants.{Add}
+use Rattle.strc_parse_tree.specs.declared.tree.BinaryOperator.TheVariants as binary
+use Rattle.strc_parse_tree.specs.declared.tree.StepOperator.TheVariants as step
+use Rattle.strc_work_meaning.specs.declared.fault.Cause.TheVariants.{Turns}
 use Rattle.strc_elab.specs.Elaboration.{elaborated}
-use Rattle.strc_stream.specs.Instances as instance
-use Rattle.strc_stream.specs.Instances.{Stream, in_a_row}
-use Rattle.strc_statements.specs.declared.error.ElabErrorKind.TheVariants.{DepthLimit, ConstFault}
+use Rattle.strc_elab_stream.specs.Instances as instance
+use Rattle.strc_elab_stream.specs.Instances.{Stream, in_a_row}
+use Rattle.strc_elab_statements.specs.declared.error.ElabErrorKind.TheVariants.{DepthLimit}
+use Rattle.strc_elab_statements.specs.declared.error.ElabErrorKind.TheVariants.{ConstFault}
 
 -- names of a letter: S, P, A, R, M, i, n and x
 abbrev letter_s : List ℕ

@@ -1,11 +1,11 @@
 -- Loops of a body, and the names that its statements leave.
 use Rattle.std.specs.Prelude.{ℕ, Option, Some, Result, length}
-use Rattle.strc_base.specs.Results.{result_and_then}
-use Rattle.strc_syntax.specs.Tree as tree
-use Rattle.strc_semantics.specs.Typing.{TypedNames, names_after}
+use Rattle.strc_lex_names.specs.Results.{result_and_then}
+use Rattle.strc_parse_tree.specs.Tree as tree
+use Rattle.strc_work_meaning.specs.Typing.{TypedNames, names_after}
 use Rattle.strc_elab.specs.Elaboration.{Setting, Progress, condition_evaluated, inside, looped}
 use Rattle.strc_elab.specs.Elaboration.{stmt_run}
-use Rattle.strc_statements.specs.declared.error.ElabError.{ElabError}
+use Rattle.strc_elab_statements.specs.declared.error.ElabError.{ElabError}
 
 -- a loop without a step, which may make fewer iterations than this
 abbrev pub while_looped : Setting → TypedNames → tree.Expr → tree.Stmt → (fuel : ℕ) → Progress

@@ -3,39 +3,40 @@
 use Rattle.std.specs.Prelude.{ℕ, zero, suc, ℤ, Bool, true, List, [], ◌∷◌, length, map, Option, Some}
 use Rattle.std.specs.Prelude.{None, Result, Ok, Err, if◌then◌else◌}
 use Rattle.std.specs.Option.{option_map, option_or}
-use Rattle.strc_base.specs.declared.place.Span.{Span}
-use Rattle.strc_base.specs.Results.{result_and_then}
-use Rattle.strc_syntax.specs.Tree as tree
-use Rattle.strc_syntax.specs.View.{expr_view, stmt_view, block_view, child_view}
-use Rattle.strc_syntax.specs.View.{declaration_view}
-use Rattle.strc_syntax.specs.declared.tree.ItemType.{ItemType}
-use Rattle.strc_syntax.specs.declared.tree.StreamType.{StreamType}
-use Rattle.strc_syntax.specs.declared.tree.CompositeKind.{CompositeKind}
-use Rattle.strc_syntax.specs.declared.tree.CompositeKind.TheVariants as composite
-use Rattle.strc_syntax.specs.declared.tree.Role.{Role}
-use Rattle.strc_syntax.specs.declared.tree.Role.TheVariants as role
-use Rattle.strc_syntax.specs.declared.tree.Member.{Member}
-use Rattle.strc_syntax.specs.declared.tree.Stmt.{Stmt, Row_of-Stmt, end_of-Stmt, more_of-Stmt}
-use Rattle.strc_syntax.specs.declared.tree.Stmt.TheVariants as stmt
-use Rattle.strc_syntax.specs.declared.tree.Composition.{Composition}
-use Rattle.strc_syntax.specs.declared.tree.Composition.TheVariants as composition
-use Rattle.strc_syntax.specs.declared.tree.Child.{Child}
-use Rattle.strc_syntax.specs.declared.tree.Decl.{Decl}
-use Rattle.strc_check.specs.Resolution.{filter_resolved}
-use Rattle.strc_semantics.specs.Arithmetic.{is_true}
-use Rattle.strc_semantics.specs.Filters.{filter_parts}
-use Rattle.strc_semantics.specs.Firing.{turn_limit}
-use Rattle.strc_semantics.specs.Typing.{TypedNames, names_after}
-use Rattle.strc_statements.specs.Statements.{ruled}
-use Rattle.strc_check.specs.RefusedPlaces.{filter_place}
-use Rattle.strc_statements.specs.Texts.{Place}
-use Rattle.strc_statements.specs.MainStreams.{doubled_from, not_doubled, main_of}
-use Rattle.strc_statements.specs.Sides.{inputs_in, outputs_in}
-use Rattle.strc_statements.specs.Weights.{Split, weighted, split_dealt, join_dealt, loop_weights}
-use Rattle.strc_statements.specs.Weights.{loop_splitter, input_written, output_written}
-use Rattle.strc_statements.specs.Written.{same_item}
-use Rattle.strc_statements.specs.declared.error.ElabError.{ElabError}
-use Rattle.strc_stream.specs.Instances.{Stream}
+use Rattle.strc_lex_names.specs.declared.place.Span.{Span}
+use Rattle.strc_lex_names.specs.Results.{result_and_then}
+use Rattle.strc_parse_tree.specs.Tree as tree
+use Rattle.strc_parse_tree.specs.View.{expr_view, stmt_view, block_view, child_view}
+use Rattle.strc_parse_tree.specs.View.{declaration_view}
+use Rattle.strc_parse_tree.specs.declared.tree.ItemType.{ItemType}
+use Rattle.strc_parse_tree.specs.declared.tree.StreamType.{StreamType}
+use Rattle.strc_parse_tree.specs.declared.tree.CompositeKind.{CompositeKind}
+use Rattle.strc_parse_tree.specs.declared.tree.CompositeKind.TheVariants as composite
+use Rattle.strc_parse_tree.specs.declared.tree.Role.{Role}
+use Rattle.strc_parse_tree.specs.declared.tree.Role.TheVariants as role
+use Rattle.strc_parse_tree.specs.declared.tree.Member.{Member}
+use Rattle.strc_parse_tree.specs.declared.tree.Stmt.{Stmt, Row_of-Stmt, end_of-Stmt, more_of-Stmt}
+use Rattle.strc_parse_tree.specs.declared.tree.Stmt.TheVariants as stmt
+use Rattle.strc_parse_tree.specs.declared.tree.Composition.{Composition}
+use Rattle.strc_parse_tree.specs.declared.tree.Composition.TheVariants as composition
+use Rattle.strc_parse_tree.specs.declared.tree.Child.{Child}
+use Rattle.strc_parse_tree.specs.declared.tree.Decl.{Decl}
+use Rattle.strc_work_rules.specs.Resolution.{filter_resolved}
+use Rattle.strc_work_meaning.specs.Arithmetic.{is_true}
+use Rattle.strc_work_meaning.specs.Filters.{filter_parts}
+use Rattle.strc_work_meaning.specs.Firing.{turn_limit}
+use Rattle.strc_work_meaning.specs.Typing.{TypedNames, names_after}
+use Rattle.strc_elab_statements.specs.Statements.{ruled}
+use Rattle.strc_work_rules.specs.RefusedPlaces.{filter_place}
+use Rattle.strc_elab_statements.specs.Texts.{Place}
+use Rattle.strc_elab_statements.specs.MainStreams.{doubled_from, not_doubled, main_of}
+use Rattle.strc_elab_statements.specs.Sides.{inputs_in, outputs_in}
+use Rattle.strc_elab_statements.specs.Weights.{Split, weighted, split_dealt, join_dealt}
+use Rattle.strc_elab_statements.specs.Weights.{loop_weights}
+use Rattle.strc_elab_statements.specs.Weights.{loop_splitter, input_written, output_written}
+use Rattle.strc_elab_statements.specs.Written.{same_item}
+use Rattle.strc_elab_statements.specs.declared.error.ElabError.{ElabError}
+use Rattle.strc_elab_stream.specs.Instances.{Stream}
 use Rattle.strc_elab.specs.declared.trace.Trace.{Trace}
 use Rattle.strc_elab.specs.Elaboration.{Setting, Progress, Totals, Found, may_have}
 use Rattle.strc_elab.specs.Elaboration.{condition_evaluated, inside, turned, child_found, stmt_run}

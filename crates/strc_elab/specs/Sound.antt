@@ -1,14 +1,14 @@
 -- What holds of each stream that a program is elaborated to.
 use Rattle.std.specs.Prelude.{◌≡◌, List, Option, ℕ, Ok}
 use Rattle.std.specs.List.{AllByRecursion}
-use Rattle.strc_syntax.specs.Tree.{Declaration}
-use Rattle.strc_semantics.specs.Filters as filters
+use Rattle.strc_parse_tree.specs.Tree.{Declaration}
+use Rattle.strc_work_meaning.specs.Filters as filters
 use Rattle.strc_elab.specs.Elaboration.{instance_of, elaborated}
-use Rattle.strc_stream.specs.Flattening.{nodes_of}
-use Rattle.strc_graph.specs.Graphs.{NodeCode, Filter, Scatter, Copy, Gather}
-use Rattle.strc_stream.specs.Instances.{Stream}
-use Rattle.strc_statements.specs.Texts.{Place}
-use Rattle.strc_stream.specs.Types.{IsClosed}
+use Rattle.strc_elab_stream.specs.Flattening.{nodes_of}
+use Rattle.strc_elab_graph.specs.Graphs.{NodeCode, Filter, Scatter, Copy, Gather}
+use Rattle.strc_elab_stream.specs.Instances.{Stream}
+use Rattle.strc_elab_statements.specs.Texts.{Place}
+use Rattle.strc_elab_stream.specs.Types.{IsClosed}
 
 -- a filter is an instance of a text; no stream of a program has a node of fission
 abbrev pub IsInstance : NodeCode → Type 0

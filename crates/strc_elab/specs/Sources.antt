@@ -2,16 +2,16 @@
 use Rattle.std.specs.Prelude.{ℕ, List, [], ◌∷◌, Option, Some, None, nat_eq, slice_get}
 use Rattle.std.specs.Prelude.{if◌then◌else◌}
 use Rattle.std.specs.Cmp.Lexicographic.{pointwise}
-use Rattle.strc_syntax.specs.declared.tree.StreamType.{StreamType}
-use Rattle.strc_syntax.specs.declared.tree.CompositeKind.{CompositeKind}
-use Rattle.strc_syntax.specs.declared.tree.Member.{Member}
-use Rattle.strc_syntax.specs.declared.tree.Stmt.{Stmt, Row_of-Stmt, end_of-Stmt, more_of-Stmt}
-use Rattle.strc_syntax.specs.declared.tree.Child.{Child, Row_of-Member, end_of-Member}
-use Rattle.strc_syntax.specs.declared.tree.Child.{more_of-Member}
-use Rattle.strc_syntax.specs.declared.tree.Child.TheVariants as child
-use Rattle.strc_syntax.specs.declared.tree.StreamTree.{StreamTree}
-use Rattle.strc_syntax.specs.declared.tree.StreamTree.TheVariants as stream
-use Rattle.strc_syntax.specs.declared.tree.Decl.{Decl}
+use Rattle.strc_parse_tree.specs.declared.tree.StreamType.{StreamType}
+use Rattle.strc_parse_tree.specs.declared.tree.CompositeKind.{CompositeKind}
+use Rattle.strc_parse_tree.specs.declared.tree.Member.{Member}
+use Rattle.strc_parse_tree.specs.declared.tree.Stmt.{Stmt, Row_of-Stmt, end_of-Stmt, more_of-Stmt}
+use Rattle.strc_parse_tree.specs.declared.tree.Child.{Child, Row_of-Member, end_of-Member}
+use Rattle.strc_parse_tree.specs.declared.tree.Child.{more_of-Member}
+use Rattle.strc_parse_tree.specs.declared.tree.Child.TheVariants as child
+use Rattle.strc_parse_tree.specs.declared.tree.StreamTree.{StreamTree}
+use Rattle.strc_parse_tree.specs.declared.tree.StreamTree.TheVariants as stream
+use Rattle.strc_parse_tree.specs.declared.tree.Decl.{Decl}
 use Rattle.strc_elab.specs.declared.task.Text.{Text}
 use Rattle.strc_elab.specs.declared.task.Text.TheVariants as text
 

@@ -3,17 +3,17 @@ use Rattle.std.specs.Prelude.{◌≡◌, ℕ, ◌-◌, List, nat_eq, map, Result
 use Rattle.std.specs.Option.{option_map}
 use Rattle.std.specs.Cmp.Lexicographic.{pointwise}
 use Rattle.indexmap.specs.IndexMap.{get_by}
-use Rattle.strc_syntax.specs.Tree.{Declaration}
-use Rattle.strc_syntax.specs.View.{declaration_view, block_view}
-use Rattle.strc_semantics.specs.Filters.{filter_parts}
-use Rattle.strc_statements.specs.Texts as texts
+use Rattle.strc_parse_tree.specs.Tree.{Declaration}
+use Rattle.strc_parse_tree.specs.View.{declaration_view, block_view}
+use Rattle.strc_work_meaning.specs.Filters.{filter_parts}
+use Rattle.strc_elab_statements.specs.Texts as texts
 use Rattle.strc_elab.specs.Elaboration as spec
 use Rattle.strc_elab.specs.Answering.{IsPlacedVerdict, IsPlaced}
 use Rattle.strc_elab.specs.Sources.{text_source}
 use Rattle.strc_elab.specs.Places.{Tracing, stream_place}
-use Rattle.strc_statements.specs.Names.{place_from}
-use Rattle.strc_stream.specs.View.{stream_view}
-use Rattle.strc_elab.specs.declared.placed.PlacedError.{PlacedError}
+use Rattle.strc_elab_statements.specs.Names.{place_from}
+use Rattle.strc_elab_stream.specs.View.{stream_view}
+use Rattle.strc_elab.specs.declared.placed_error.PlacedError.{PlacedError}
 use Rattle.strc_elab.specs.declared.task.Text.{Text}
 use Rattle.strc_elab.specs.declared.task.Text.TheVariants as text
 use Rattle.strc_elab.specs.declared.task.Task.{Task}

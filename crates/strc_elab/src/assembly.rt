@@ -2,39 +2,39 @@
 
 ghost use Rattle.std.specs.Prelude.{◌≡◌, map, IsSome, None, nat_lt, slice_index};
 ghost use Rattle.std.specs.Option.{option_map};
-ghost use Rattle.strc_graph.specs.Carriers.{splitter_carries as splitter_carries_at};
-ghost use Rattle.strc_graph.specs.NodeView.{splitter_view};
-ghost use Rattle.strc_stream.specs.Instances as instances;
-ghost use Rattle.strc_stream.specs.Types as stream_types;
-ghost use Rattle.strc_stream.specs.View.{stream_view};
+ghost use Rattle.strc_elab_graph.specs.Carriers.{splitter_carries as splitter_carries_at};
+ghost use Rattle.strc_elab_graph.specs.NodeView.{splitter_view};
+ghost use Rattle.strc_elab_stream.specs.Instances as instances;
+ghost use Rattle.strc_elab_stream.specs.Types as stream_types;
+ghost use Rattle.strc_elab_stream.specs.View.{stream_view};
 ghost use Rattle.strc_elab.specs.Answering.{progress_of, join_view, part_view};
 ghost use Rattle.strc_elab.specs.Answering.{IsPlacedVerdict, IsPlaced};
 ghost use Rattle.strc_elab.specs.Places.{assembly_place, pipeline_place, splitjoin_place};
 ghost use Rattle.strc_elab.specs.Places.{loop_place, ends_place};
 ghost use Rattle.strc_elab.specs.Places.{takes_as_written as takes_as_written_at};
-ghost use Rattle.strc_statements.specs.declared.error.ElabErrorKind.TheVariants as refused;
-ghost use Rattle.strc_statements.specs.Splits.{split_view};
-ghost use Rattle.strc_statements.specs.Weights as weights;
+ghost use Rattle.strc_elab_statements.specs.declared.error.ElabErrorKind.TheVariants as refused;
+ghost use Rattle.strc_elab_statements.specs.Splits.{split_view};
+ghost use Rattle.strc_elab_statements.specs.Weights as weights;
 ghost use Rattle.strc_elab.specs.Elaboration as spec;
 ghost use Rattle.strc_elab.specs.Assembly.{elaborated_as, IsLoopOf};
 ghost use Rattle.strc_elab.specs.Tasks.{elaborated_view};
 
-use crate::placed::{PlacedError, refused_at};
+use crate::placed_error::{PlacedError, refused_at};
 use crate::progress::Progress;
 use crate::task::{Elaborated, Task};
 use crate::trace::Trace;
 use std::alloc::Global;
-use strc_base::place::Span;
-use strc_check::site::{Mismatch, Part};
-use strc_graph::graph::Splitter;
-use strc_statements::error::ElabError;
-use strc_statements::types::{any_side, inputs_in, outputs_in, side, types_in_a_row};
-use strc_statements::weights::{
+use strc_elab_graph::graph::Splitter;
+use strc_elab_statements::error::ElabError;
+use strc_elab_statements::types::{any_side, inputs_in, outputs_in, side, types_in_a_row};
+use strc_elab_statements::weights::{
     Split, input_written, join_dealt, loop_splitter, loop_weights, output_written, split_dealt,
 };
-use strc_statements::written::{is_as_written, same_item};
-use strc_stream::stream::Stream;
-use strc_syntax::tree::{CompositeKind, ItemType, StreamType};
+use strc_elab_statements::written::{is_as_written, same_item};
+use strc_elab_stream::stream::Stream;
+use strc_lex_names::place::Span;
+use strc_parse_tree::tree::{CompositeKind, ItemType, StreamType};
+use strc_work_rules::site::{Mismatch, Part};
 
 impl Task<'_> {
     /// What is made of a body that has run.

@@ -4,34 +4,34 @@
 
 ghost use Rattle.std.specs.Prelude.{◌≡◌, ◌-◌, suc, OnOk, Some, length};
 ghost use Rattle.std.specs.Option.{option_map};
-ghost use Rattle.strc_syntax.specs.Tree as tree;
-ghost use Rattle.strc_syntax.specs.View.{expr_view, stmt_view, block_view};
-ghost use Rattle.strc_semantics.specs.Firing as firing;
-ghost use Rattle.strc_semantics.specs.Firing.{turn_limit};
-ghost use Rattle.strc_semantics.specs.Typing as typing;
-ghost use Rattle.strc_statements.specs.Statements as statements;
+ghost use Rattle.strc_parse_tree.specs.Tree as tree;
+ghost use Rattle.strc_parse_tree.specs.View.{expr_view, stmt_view, block_view};
+ghost use Rattle.strc_work_meaning.specs.Firing as firing;
+ghost use Rattle.strc_work_meaning.specs.Firing.{turn_limit};
+ghost use Rattle.strc_work_meaning.specs.Typing as typing;
+ghost use Rattle.strc_elab_statements.specs.Statements as statements;
 ghost use Rattle.strc_elab.specs.Elaboration as spec;
 ghost use Rattle.strc_elab.specs.Loops.{while_looped, for_looped, names_after_block};
-ghost use Rattle.strc_statements.specs.Saying.{store_of};
-ghost use Rattle.strc_statements.specs.Answers.{Done};
+ghost use Rattle.strc_elab_statements.specs.Saying.{store_of};
+ghost use Rattle.strc_elab_statements.specs.Answers.{Done};
 ghost use Rattle.strc_elab.specs.Answering.{progress_of, Tests, Runs, Traces};
-ghost use Rattle.strc_statements.specs.Places.{place_of as spec_place};
+ghost use Rattle.strc_elab_statements.specs.Places.{place_of as spec_place};
 ghost use Rattle.strc_elab.specs.Places.{stmt_trace, placed_trace, block_trace, while_trace};
 ghost use Rattle.strc_elab.specs.Places.{for_trace, for_turns_trace};
 ghost use Rattle.strc_elab.specs.Tasks.{IsReady, setting_of, tracing_of, place_of as task_place};
 
-use crate::placed::PlacedError;
+use crate::placed_error::PlacedError;
 use crate::progress::Progress;
 use crate::task::{Elaborated, Task};
-use strc_base::place::Span;
-use strc_check::site::Mismatch;
-use strc_semantics::evaluation::is_true;
-use strc_semantics::fault::{Cause, TURN_LIMIT};
-use strc_semantics::types::ValueType;
-use strc_statements::error::ElabError;
-use strc_statements::steps::Place;
-use strc_statements::store::Store;
-use strc_syntax::tree::{Expr, Stmt};
+use strc_elab_statements::error::ElabError;
+use strc_elab_statements::steps::Place;
+use strc_elab_statements::store::Store;
+use strc_lex_names::place::Span;
+use strc_parse_tree::tree::{Expr, Stmt};
+use strc_work_meaning::evaluation::is_true;
+use strc_work_meaning::fault::{Cause, TURN_LIMIT};
+use strc_work_meaning::types::ValueType;
+use strc_work_rules::site::Mismatch;
 
 /// What a body's statements are in: the task whose text it is, and what elaborates the streams
 /// one level below.

@@ -2,38 +2,38 @@
 
 ghost use Rattle.std.specs.Prelude.{◌≡◌, [], map, length, IfOk, OnOk, Ok, Some};
 ghost use Rattle.std.specs.Option.{is_some};
-ghost use Rattle.strc_syntax.specs.View.{child_view, declaration_view, expr_view};
-ghost use Rattle.strc_syntax.specs.declared.tree.Role.TheVariants as roles;
+ghost use Rattle.strc_parse_tree.specs.View.{child_view, declaration_view, expr_view};
+ghost use Rattle.strc_parse_tree.specs.declared.tree.Role.TheVariants as roles;
 ghost use Rattle.strc_elab.specs.Elaboration as spec;
-ghost use Rattle.strc_statements.specs.Texts as texts;
-ghost use Rattle.strc_statements.specs.Saying.{store_of};
+ghost use Rattle.strc_elab_statements.specs.Texts as texts;
+ghost use Rattle.strc_elab_statements.specs.Saying.{store_of};
 ghost use Rattle.strc_elab.specs.Answering.{progress_of, Binds, Runs, Traces, IsFrom};
 ghost use Rattle.strc_elab.specs.Assembly.{elaborated_by};
 ghost use Rattle.strc_elab.specs.Places.{child_trace, found_trace, with_child};
 ghost use Rattle.strc_elab.specs.Sources.{named_source, declaration_source, text_source};
 ghost use Rattle.strc_elab.specs.Tasks.{IsReady, setting_of, tracing_of, program_of};
 ghost use Rattle.strc_elab.specs.Tasks.{text_view};
-ghost use Rattle.strc_stream.specs.View.{stream_view};
+ghost use Rattle.strc_elab_stream.specs.View.{stream_view};
 
 use crate::body::Body;
-use crate::declared::{declared, in_own_text, text_of};
-use crate::placed::PlacedError;
+use crate::declared_text::{declared, in_own_text, text_of};
+use crate::placed_error::PlacedError;
 use crate::progress::Progress;
 use crate::task::{Elaborated, Task, Text};
 use std::alloc::Global;
-use strc_base::memory::NoMemory;
-use strc_base::name::Name;
-use strc_base::place::Span;
-use strc_check::site::Mismatch;
-use strc_semantics::constants::Constants;
-use strc_semantics::typed_scope::TypedScope;
-use strc_semantics::types::ValueType;
-use strc_statements::captures::captures;
-use strc_statements::error::{ElabError, ElabErrorKind};
-use strc_statements::store::Store;
-use strc_statements::types::passes_items;
-use strc_stream::stream::Stream;
-use strc_syntax::tree::{Child, Decl, Expr, Role, StreamType};
+use strc_elab_statements::captures::captures;
+use strc_elab_statements::error::{ElabError, ElabErrorKind};
+use strc_elab_statements::store::Store;
+use strc_elab_statements::types::passes_items;
+use strc_elab_stream::stream::Stream;
+use strc_lex_names::memory::NoMemory;
+use strc_lex_names::name::Name;
+use strc_lex_names::place::Span;
+use strc_parse_tree::tree::{Child, Decl, Expr, Role, StreamType};
+use strc_work_meaning::constants::Constants;
+use strc_work_meaning::typed_scope::TypedScope;
+use strc_work_meaning::types::ValueType;
+use strc_work_rules::site::Mismatch;
 
 impl<F: Fn(Task) -> Result<Elaborated, PlacedError>> Body<'_, F> {
     /// Elaborates a child.

@@ -1,25 +1,26 @@
 // Stream statements of a composite stream's body: which of them it may have, and what they say.
 
 ghost use Rattle.std.specs.Prelude.{◌≡◌, [], map, Some, Err, OnOk};
-ghost use Rattle.strc_syntax.specs.View.{expr_view, composition_view, child_view, splitter_view};
-ghost use Rattle.strc_syntax.specs.Tree as tree;
-ghost use Rattle.strc_statements.specs.Saying.{store_of};
-ghost use Rattle.strc_statements.specs.declared.error.ElabErrorKind.TheVariants as refused;
+ghost use Rattle.strc_parse_tree.specs.View.{expr_view, composition_view, child_view};
+ghost use Rattle.strc_parse_tree.specs.View.{splitter_view};
+ghost use Rattle.strc_parse_tree.specs.Tree as tree;
+ghost use Rattle.strc_elab_statements.specs.Saying.{store_of};
+ghost use Rattle.strc_elab_statements.specs.declared.error.ElabErrorKind.TheVariants as refused;
 ghost use Rattle.strc_elab.specs.Answering.{progress_of, Runs, Lists, Splits, Traces};
 ghost use Rattle.strc_elab.specs.Elaboration as spec;
 ghost use Rattle.strc_elab.specs.Places.{composed_trace, added_trace, with_split, with_join};
 ghost use Rattle.strc_elab.specs.Tasks.{IsReady, setting_of, tracing_of};
 
 use crate::body::Body;
-use crate::placed::PlacedError;
+use crate::placed_error::PlacedError;
 use crate::progress::Progress;
 use crate::task::{Elaborated, Task};
-use strc_check::site::{Mismatch, Part};
-use strc_semantics::types::ValueType;
-use strc_statements::error::ElabError;
-use strc_statements::store::Store;
-use strc_statements::weights::Split;
-use strc_syntax::tree::{Child, Composition, Expr, Role, Splitter};
+use strc_elab_statements::error::ElabError;
+use strc_elab_statements::store::Store;
+use strc_elab_statements::weights::Split;
+use strc_parse_tree::tree::{Child, Composition, Expr, Role, Splitter};
+use strc_work_meaning::types::ValueType;
+use strc_work_rules::site::{Mismatch, Part};
 
 /// The part that a child is for.
 fn part_of(role: Role) -> Part {

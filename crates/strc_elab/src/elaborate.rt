@@ -4,29 +4,29 @@ ghost use Rattle.std.specs.Prelude.{◌≡◌, ℕ, List, Some, map, nat_eq, sli
 ghost use Rattle.std.specs.Option.{option_map};
 ghost use Rattle.std.specs.Cmp.Lexicographic.{pointwise};
 ghost use Rattle.indexmap.specs.IndexMap.{get_by};
-ghost use Rattle.strc_syntax.specs.View.{declaration_view, program_view};
+ghost use Rattle.strc_parse_tree.specs.View.{declaration_view, program_view};
 ghost use Rattle.strc_elab.specs.Answering.{IsPlacedVerdict, IsPlaced};
 ghost use Rattle.strc_elab.specs.Elaboration as spec;
 ghost use Rattle.strc_elab.specs.Places.{main_place, program_place};
-ghost use Rattle.strc_statements.specs.Answers.{IsVerdict};
-ghost use Rattle.strc_statements.specs.MainStreams as main_streams;
-ghost use Rattle.strc_statements.specs.Names.{place_from};
+ghost use Rattle.strc_elab_statements.specs.Answers.{IsVerdict};
+ghost use Rattle.strc_elab_statements.specs.MainStreams as main_streams;
+ghost use Rattle.strc_elab_statements.specs.Names.{place_from};
 ghost use Rattle.strc_elab.specs.Sound.{IsElaborated};
 ghost use Rattle.strc_elab.specs.Tasks.{elaborated_view};
-ghost use Rattle.strc_stream.specs.View.{stream_view};
+ghost use Rattle.strc_elab_stream.specs.View.{stream_view};
 
-use crate::declared::{in_own_text, text_of};
+use crate::declared_text::{in_own_text, text_of};
 use crate::level::elaborate_text;
-use crate::placed::PlacedError;
+use crate::placed_error::PlacedError;
 use crate::task::{Elaborated, Task, Totals};
 use indexmap::IndexMap;
 use std::alloc::Global;
-use strc_semantics::constants::Constants;
-use strc_statements::error::ElabError;
-use strc_statements::index::index_of;
-use strc_statements::main_stream::main_of;
-use strc_stream::stream::Stream;
-use strc_syntax::tree::{Decl, Program};
+use strc_elab_statements::error::ElabError;
+use strc_elab_statements::index::index_of;
+use strc_elab_statements::main_stream::main_of;
+use strc_elab_stream::stream::Stream;
+use strc_parse_tree::tree::{Decl, Program};
+use strc_work_meaning::constants::Constants;
 
 /// How many levels streams may be nested in one another, the main one being the first.
 const LEVEL_LIMIT: u32 = 64;

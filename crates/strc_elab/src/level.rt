@@ -4,9 +4,9 @@
 ghost use Rattle.strc_elab.specs.Tasks.{KnowsNames, IsTaskVerdict};
 
 use crate::body::Body;
-use crate::placed::PlacedError;
+use crate::placed_error::PlacedError;
 use crate::task::{Elaborated, Task};
-use strc_statements::error::{ElabError, ElabErrorKind};
+use strc_elab_statements::error::{ElabError, ElabErrorKind};
 
 /// The instances that a text means, with so many levels as the task allows.
 pub(crate) fn elaborate_text(task: Task) -> Result<Elaborated, PlacedError>

@@ -6,12 +6,12 @@ ghost use Rattle.strc_elab.specs.Answering.{progress_of};
 
 use crate::task::Totals;
 use crate::trace::Trace;
-use strc_check::site::{Mismatch, Part};
-use strc_statements::store::Store;
-use strc_statements::weights::Split;
-use strc_statements::written::same_item;
-use strc_stream::stream::Stream;
-use strc_syntax::tree::{CompositeKind, Role, StreamType};
+use strc_elab_statements::store::Store;
+use strc_elab_statements::weights::Split;
+use strc_elab_statements::written::same_item;
+use strc_elab_stream::stream::Stream;
+use strc_parse_tree::tree::{CompositeKind, Role, StreamType};
+use strc_work_rules::site::{Mismatch, Part};
 
 /// What its stream statements have said so far: the children of `add` with their types, the weights
 /// of `split` and `join`, body and loop, and the enqueued items; its variables and the iterations

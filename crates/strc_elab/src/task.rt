@@ -2,10 +2,10 @@
 
 use indexmap::IndexMap;
 use std::alloc::Global;
-use strc_base::name::{Name, StringLiteral};
-use strc_semantics::constants::Constants;
-use strc_stream::stream::Stream;
-use strc_syntax::tree::{CompositeKind, Decl, ItemType, Member, Stmt, StreamType};
+use strc_elab_stream::stream::Stream;
+use strc_lex_names::name::{Name, StringLiteral};
+use strc_parse_tree::tree::{CompositeKind, Decl, ItemType, Member, Stmt, StreamType};
+use strc_work_meaning::constants::Constants;
 
 /// The text of a stream.
 #[derive(Clone, Copy)]

@@ -2,11 +2,11 @@
 
 ghost use Rattle.std.specs.Prelude.{◌≡◌, [], IfOk, Ok, None};
 ghost use Rattle.std.specs.Option.{option_map};
-ghost use Rattle.strc_syntax.specs.View.{block_view};
-ghost use Rattle.strc_semantics.specs.Filters.{filter_of, filter_parts};
-ghost use Rattle.strc_semantics.specs.Firing as firing;
+ghost use Rattle.strc_parse_tree.specs.View.{block_view};
+ghost use Rattle.strc_work_meaning.specs.Filters.{filter_of, filter_parts};
+ghost use Rattle.strc_work_meaning.specs.Firing as firing;
 ghost use Rattle.strc_elab.specs.Elaboration as spec;
-ghost use Rattle.strc_statements.specs.Answers.{IsVerdict};
+ghost use Rattle.strc_elab_statements.specs.Answers.{IsVerdict};
 ghost use Rattle.strc_elab.specs.Answering.{progress_of, IsPlacedVerdict, IsPlaced, IsTraced};
 ghost use Rattle.strc_elab.specs.Places.{instance_place, block_trace, composite_place, text_place};
 ghost use Rattle.strc_elab.specs.Places.{no_trace};
@@ -14,26 +14,26 @@ ghost use Rattle.strc_elab.specs.Sources.{FilterSource, text_source};
 ghost use Rattle.strc_elab.specs.Totals.{totals_view};
 ghost use Rattle.strc_elab.specs.Tasks.{IsReady, setting_of, tracing_of, place_of, totals_of};
 ghost use Rattle.strc_elab.specs.Tasks.{text_view, elaborated_view};
-ghost use Rattle.strc_statements.specs.Texts as texts;
+ghost use Rattle.strc_elab_statements.specs.Texts as texts;
 
 use crate::body::Body;
-use crate::placed::PlacedError;
+use crate::placed_error::PlacedError;
 use crate::progress::Progress;
 use crate::task::{Elaborated, Task, Text, Totals};
 use crate::trace::Trace;
 use std::alloc::{AllocError, Global};
-use strc_base::name::{Name, StringLiteral};
-use strc_code::code::Code;
-use strc_graph::graph::NODE_LIMIT;
-use strc_graph::instance::Instance;
-use strc_statements::error::{ElabError, ElabErrorKind};
-use strc_statements::steps::at_declaration;
-use strc_statements::store::Store;
-use strc_statements::variables::Variables;
-use strc_stream::stream::Stream;
-use strc_syntax::tree::{CompositeKind, ItemType, Member, Stmt, StreamType};
+use strc_elab_graph::graph::NODE_LIMIT;
+use strc_elab_graph::instance::Instance;
+use strc_elab_statements::error::{ElabError, ElabErrorKind};
+use strc_elab_statements::steps::at_declaration;
+use strc_elab_statements::store::Store;
+use strc_elab_statements::variables::Variables;
+use strc_elab_stream::stream::Stream;
+use strc_lex_names::name::{Name, StringLiteral};
+use strc_parse_tree::tree::{CompositeKind, ItemType, Member, Stmt, StreamType};
 use strc_work::firing::{Fire, StartError};
 use strc_work::lowering::lower_parts;
+use strc_work_code::code::Code;
 
 impl Totals {
     /// One more filter, unless the limit is reached.

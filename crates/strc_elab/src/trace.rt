@@ -3,8 +3,8 @@
 ghost use Rattle.std.specs.Prelude.{◌≡◌};
 ghost use Rattle.strc_elab.specs.Places as places;
 
-use strc_base::place::Span;
-use strc_syntax::tree::StreamType;
+use strc_lex_names::place::Span;
+use strc_parse_tree::tree::StreamType;
 
 /// The places of statements, each where it is known: of the innermost one that runs, or that was
 /// refused; of those that said `split` and `join`; and of those that added the first and the last

@@ -5,7 +5,7 @@ use Rattle.std.proofs.Common.{Option, Some, None, option_map}
 use Rattle.std.proofs.lemmas.Bool.{cases_lt}
 use borrow.Author.Tests.{le-ltb}
 use Rattle.std.proofs.lemmas.List.{get_or_default}
-use Rattle.strc_graph.specs.declared.graph.Fission.{Fission}
+use Rattle.strc_elab_graph.specs.declared.graph.Fission.{Fission}
 use Rattle.strc_fiss.specs.Numbers.{up_to, last_of, last_part, base, share_at, node_limit}
 use Rattle.strc_fiss.specs.Splitting.{new_joiner}
 use Rattle.strc_fiss.specs.Ways.{whole}

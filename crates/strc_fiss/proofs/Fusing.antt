@@ -1,14 +1,14 @@
 -- A schedule after fission whose round is fused.
 use Rattle.std.proofs.Common.{◌≡◌, ◌∙◌, sym, ap, subst, ℕ, ◌≤◌, All, length, Ok, Err}
 use Rattle.std.specs.Prelude.{Result, OnOk, OnErr}
-use Rattle.strc_graph.specs.Graphs.{Graph}
-use Rattle.strc_schedule.specs.Buffers.{size_limit}
-use Rattle.strc_schedule.specs.Firings.{none_fired}
-use Rattle.strc_schedule.specs.Greedy.{firings_of}
-use Rattle.strc_schedule.specs.Peaks.{AreRaised, HasNodes}
-use Rattle.strc_schedule.specs.Schedules.{ScheduleParts}
-use Rattle.strc_schedule.specs.Sizing.{round_rates_on}
-use Rattle.strc_dataflow.specs.FusedUnits.{AreFused}
+use Rattle.strc_elab_graph.specs.Graphs.{Graph}
+use Rattle.strc_sched_orders.specs.Buffers.{size_limit}
+use Rattle.strc_sched_orders.specs.Firings.{none_fired}
+use Rattle.strc_sched_orders.specs.Greedy.{firings_of}
+use Rattle.strc_sched_orders.specs.Peaks.{AreRaised, HasNodes}
+use Rattle.strc_sched_orders.specs.Schedules.{ScheduleParts}
+use Rattle.strc_sched_orders.specs.Sizing.{round_rates_on}
+use Rattle.strc_elab_dataflow.specs.FusedUnits.{AreFused}
 use Rattle.strc_fuse.specs.Fusion.{IsFusion}
 use Rattle.strc_fuse.specs.Laws.{CanBeFused}
 use Rattle.strc_fuse.specs.Units.{is_free, round_units}

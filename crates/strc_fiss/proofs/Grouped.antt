@@ -10,10 +10,10 @@ use Rattle.std.proofs.lemmas.List.{map-set, get_or-map, length-map, length-set, 
 use Rattle.std.proofs.lemmas.List.{take_more}
 use Rattle.std.proofs.lemmas.List.{get_or-set_same, get_or-set_other, take_all}
 use Rattle.std.proofs.lemmas.List.Elements.{filter-append}
-use Rattle.strc_graph.specs.Graphs as graphs
-use Rattle.strc_graph.specs.NodeView.{GraphParts, channel_view}
-use Rattle.strc_graph.specs.declared.graph.Channel as declared_channel
-use Rattle.strc_graph.specs.declared.graph.Fission.{Fission}
+use Rattle.strc_elab_graph.specs.Graphs as graphs
+use Rattle.strc_elab_graph.specs.NodeView.{GraphParts, channel_view}
+use Rattle.strc_elab_graph.specs.declared.graph.Channel as declared_channel
+use Rattle.strc_elab_graph.specs.declared.graph.Fission.{Fission}
 use Rattle.strc_fiss.specs.declared.channels.Wire as declared
 use Rattle.strc_fiss.specs.Groups.{AreGroups}
 use Rattle.strc_fiss.specs.Numbers.{up_to, joined_up_to, base}

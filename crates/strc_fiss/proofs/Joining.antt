@@ -6,12 +6,14 @@ use Rattle.std.specs.Option.{option_map_or}
 use Rattle.std.proofs.lemmas.Bool.{true≢false}
 use Rattle.std.proofs.lemmas.Option.{slice_get-get_or}
 use borrow.Author.Tests.{lt-ltb, le-ltb, eqb-true}
-use Rattle.strc_graph.specs.Graphs.{Graph, IsGraph, JoinsPorts, Channel, NodeCode, Filter, Identity}
-use Rattle.strc_graph.specs.Graphs.{FileReader, FileWriter, Splitter, Joiner, Scatter, Copy, Gather}
-use Rattle.strc_graph.specs.Graphs.{input_ports, output_ports, inputs_at, outputs_at}
-use Rattle.strc_graph.specs.Graphs.{copied_inputs, copied_outputs}
-use Rattle.strc_graph.specs.declared.graph.Fission.{Fission}
-use Rattle.strc_interval.specs.Stateless.{is_stateless}
+use Rattle.strc_elab_graph.specs.Graphs.{Graph, IsGraph, JoinsPorts, Channel, NodeCode, Filter}
+use Rattle.strc_elab_graph.specs.Graphs.{Identity}
+use Rattle.strc_elab_graph.specs.Graphs.{FileReader, FileWriter, Splitter, Joiner, Scatter, Copy}
+use Rattle.strc_elab_graph.specs.Graphs.{Gather}
+use Rattle.strc_elab_graph.specs.Graphs.{input_ports, output_ports, inputs_at, outputs_at}
+use Rattle.strc_elab_graph.specs.Graphs.{copied_inputs, copied_outputs}
+use Rattle.strc_elab_graph.specs.declared.graph.Fission.{Fission}
+use Rattle.strc_work_writes.specs.Stateless.{is_stateless}
 use Rattle.strc_fiss.specs.Numbers.{up_to, is_dealt, last_part, base, each_part}
 use Rattle.strc_fiss.specs.Splitting.{Wire, wires_of, copied, part_of, part_code, code_at, new_code}
 use Rattle.strc_fiss.specs.Splitting.{to_copy, from_copy, inner_wires, leaves, renamed_wire}

@@ -4,7 +4,7 @@ use Rattle.std.proofs.Common.{length, get_or, inl, inr, slice_get, Some}
 use Rattle.std.proofs.lemmas.Bool.{cases_lt}
 use Rattle.std.proofs.lemmas.List.{get_or_append_left, get_or-append-add, length-append}
 use Rattle.std.proofs.lemmas.Option.{slice_get-get_or}
-use Rattle.strc_graph.specs.declared.graph.Fission.{Fission}
+use Rattle.strc_elab_graph.specs.declared.graph.Fission.{Fission}
 use Rattle.strc_fiss.specs.Numbers.{up_to, base, last_part, each_part}
 use Rattle.strc_fiss.proofs.Bases.{base_below}
 use Rattle.strc_fiss.proofs.Sequences.{get_up_to, length_up_to}

@@ -1,15 +1,15 @@
 -- What fission comes to, of what its steps come to.
 use Rattle.std.proofs.Common.{◌≡◌, ap, ap₂, ◌∙◌, subst, ℕ, ◌≤◌, List, map, length, Option}
-use Rattle.strc_graph.specs.Graphs.{Graph, NodeCode, Channel}
-use Rattle.strc_graph.specs.NodeView.{GraphParts, graph_view, node_view, channel_view}
-use Rattle.strc_graph.specs.declared.graph.Fission.{Fission}
-use Rattle.strc_schedule.specs.declared.unit as units
-use Rattle.strc_schedule.specs.Firings.{none_fired}
-use Rattle.strc_schedule.specs.Greedy as order
-use Rattle.strc_schedule.specs.Peaks.{AreRaised}
-use Rattle.strc_schedule.specs.Schedules.{ScheduleParts}
-use Rattle.strc_schedule.specs.Sizing.{round_rates_on, PassesOn}
-use Rattle.strc_dataflow.specs.FusedUnits.{firings_of}
+use Rattle.strc_elab_graph.specs.Graphs.{Graph, NodeCode, Channel}
+use Rattle.strc_elab_graph.specs.NodeView.{GraphParts, graph_view, node_view, channel_view}
+use Rattle.strc_elab_graph.specs.declared.graph.Fission.{Fission}
+use Rattle.strc_sched_orders.specs.declared.unit as units
+use Rattle.strc_sched_orders.specs.Firings.{none_fired}
+use Rattle.strc_sched_orders.specs.Greedy as order
+use Rattle.strc_sched_orders.specs.Peaks.{AreRaised}
+use Rattle.strc_sched_orders.specs.Schedules.{ScheduleParts}
+use Rattle.strc_sched_orders.specs.Sizing.{round_rates_on, PassesOn}
+use Rattle.strc_elab_dataflow.specs.FusedUnits.{firings_of}
 use Rattle.strc_fuse.specs.Units.{round_units}
 use Rattle.strc_fuse.proofs.Counting.{firings_same}
 use Rattle.strc_fiss.specs.Fissions.{SplitPasses}

@@ -4,11 +4,12 @@ use Rattle.std.proofs.Common.{◌∷◌, ◌++◌, map, Bool, true, false, cond,
 use Rattle.std.proofs.Common.{eqb}
 use Rattle.std.proofs.lemmas.Bool.{true≢false}
 use borrow.Author.Tests.{eqb-true}
-use Rattle.strc_graph.specs.declared.graph.Fission.{Fission}
-use Rattle.strc_dataflow.specs.FusedUnits.{RoundUnit}
-use Rattle.strc_dataflow.specs.Pieces as pieces
-use Rattle.strc_dataflow.specs.Pieces.{Piece, Piece.Plain, Piece.Whole, ArePieces, AreKept, unit_of}
-use Rattle.strc_dataflow.specs.Pieces.{units_before, units_after, copy_units}
+use Rattle.strc_elab_graph.specs.declared.graph.Fission.{Fission}
+use Rattle.strc_elab_dataflow.specs.FusedUnits.{RoundUnit}
+use Rattle.strc_elab_dataflow.specs.Pieces as pieces
+use Rattle.strc_elab_dataflow.specs.Pieces.{Piece, Piece.Plain, Piece.Whole, ArePieces, AreKept}
+use Rattle.strc_elab_dataflow.specs.Pieces.{unit_of}
+use Rattle.strc_elab_dataflow.specs.Pieces.{units_before, units_after, copy_units}
 use Rattle.strc_fiss.specs.Laws.{piece_of, pieces_of, IsOwn, AreOwn}
 use Rattle.strc_fiss.specs.Numbers.{up_to, is_dealt, base, parts_after}
 use Rattle.strc_fiss.specs.Units.{units_of_parts, is_whole, renamed_unit, split_list}

@@ -7,14 +7,14 @@ use Rattle.std.proofs.lemmas.Bool.{true≢false}
 use Rattle.std.proofs.lemmas.Bool.Decides.{eqb_tells}
 use Rattle.std.proofs.Math.Nat.{div-add-mod}
 use borrow.Author.Tests.{ltb-true}
-use Rattle.strc_graph.specs.Graphs.{Graph, NodeCode, Filter, Identity, FileReader, FileWriter}
-use Rattle.strc_graph.specs.Graphs.{Splitter, Joiner, Scatter, Copy, Gather}
-use Rattle.strc_graph.specs.declared.graph.Fission.{Fission}
+use Rattle.strc_elab_graph.specs.Graphs.{Graph, NodeCode, Filter, Identity, FileReader, FileWriter}
+use Rattle.strc_elab_graph.specs.Graphs.{Splitter, Joiner, Scatter, Copy, Gather}
+use Rattle.strc_elab_graph.specs.declared.graph.Fission.{Fission}
 use Rattle.strc_balance.specs.Balance.{count_at}
-use Rattle.strc_schedule.specs.declared.unit as units
-use Rattle.strc_schedule.specs.Peaks.{HasNodes}
-use Rattle.strc_dataflow.specs.FusedUnits.{RoundUnit}
-use Rattle.strc_dataflow.specs.Pieces.{unit_of}
+use Rattle.strc_sched_orders.specs.declared.unit as units
+use Rattle.strc_sched_orders.specs.Peaks.{HasNodes}
+use Rattle.strc_elab_dataflow.specs.FusedUnits.{RoundUnit}
+use Rattle.strc_elab_dataflow.specs.Pieces.{unit_of}
 use Rattle.strc_fuse.specs.Units.{round_unit, round_units}
 use Rattle.strc_fiss.specs.Numbers.{up_to, is_dealt, last_part, base}
 use Rattle.strc_fiss.specs.Units.{renamed_unit, split_list, split_unit, split_units}

@@ -2,7 +2,7 @@
 use Rattle.std.proofs.Common.{◌≡◌, refl, ap, ap₂, ℕ, suc, ◌+◌, ◌<◌, arith}
 use Rattle.std.proofs.Common.{List, [], ◌∷◌, length, map, get_or, slice_index, All, Bool, true}
 use Rattle.std.proofs.Common.{cond}
-use Rattle.strc_graph.specs.declared.graph.Fission.{Fission}
+use Rattle.strc_elab_graph.specs.declared.graph.Fission.{Fission}
 use Rattle.strc_fiss.specs.Numbers.{up_to, base, is_dealt, last_of, share_at}
 use Rattle.strc_fiss.proofs.Bases.{base_read, share_read, parts_within}
 

@@ -10,11 +10,11 @@ use Rattle.std.proofs.lemmas.List.{get_or_push}
 use Rattle.std.proofs.lemmas.Option.{slice_get_cases}
 use Rattle.strc_balance.specs.Balance.{count_at}
 use Rattle.strc_fuse.specs.Units.{is_outside}
-use Rattle.strc_graph.specs.Graphs.{IsGraph, NodeCode, Channel, outputs_at}
-use Rattle.strc_graph.specs.Graphs.{inputs_at, output_ports, input_ports}
-use Rattle.strc_graph.specs.NodeView.{GraphParts, graph_view, node_view, channel_view}
-use Rattle.strc_graph.specs.declared.graph.Channel as declared_channel
-use Rattle.strc_graph.specs.declared.graph.Fission.{Fission}
+use Rattle.strc_elab_graph.specs.Graphs.{IsGraph, NodeCode, Channel, outputs_at}
+use Rattle.strc_elab_graph.specs.Graphs.{inputs_at, output_ports, input_ports}
+use Rattle.strc_elab_graph.specs.NodeView.{GraphParts, graph_view, node_view, channel_view}
+use Rattle.strc_elab_graph.specs.declared.graph.Channel as declared_channel
+use Rattle.strc_elab_graph.specs.declared.graph.Fission.{Fission}
 use Rattle.strc_fiss.specs.Ways.{whole, is_alike, feeds_itself, greatest_divisor, dealt, fission_of}
 
 -- a node with a port is there

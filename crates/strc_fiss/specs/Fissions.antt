@@ -1,15 +1,15 @@
 -- What fission of a graph and its schedule comes to.
 use Rattle.std.specs.Prelude.{◌≡◌, ℕ, ◌≤◌, All, length}
-use Rattle.strc_graph.specs.Graphs.{Graph}
-use Rattle.strc_graph.specs.NodeView.{graph_view}
-use Rattle.strc_graph.specs.declared.graph.Fission.{Fission}
-use Rattle.strc_schedule.specs.Buffers.{size_limit}
-use Rattle.strc_schedule.specs.Firings.{none_fired}
-use Rattle.strc_schedule.specs.Greedy as order
-use Rattle.strc_schedule.specs.Peaks.{AreRaised}
-use Rattle.strc_schedule.specs.Schedules.{ScheduleParts}
-use Rattle.strc_schedule.specs.Sizing.{round_rates_on, PassesOn}
-use Rattle.strc_dataflow.specs.FusedUnits.{firings_of}
+use Rattle.strc_elab_graph.specs.Graphs.{Graph}
+use Rattle.strc_elab_graph.specs.NodeView.{graph_view}
+use Rattle.strc_elab_graph.specs.declared.graph.Fission.{Fission}
+use Rattle.strc_sched_orders.specs.Buffers.{size_limit}
+use Rattle.strc_sched_orders.specs.Firings.{none_fired}
+use Rattle.strc_sched_orders.specs.Greedy as order
+use Rattle.strc_sched_orders.specs.Peaks.{AreRaised}
+use Rattle.strc_sched_orders.specs.Schedules.{ScheduleParts}
+use Rattle.strc_sched_orders.specs.Sizing.{round_rates_on, PassesOn}
+use Rattle.strc_elab_dataflow.specs.FusedUnits.{firings_of}
 use Rattle.strc_fuse.specs.Fusion.{IsFusion}
 use Rattle.strc_fuse.specs.Units.{round_units}
 use Rattle.strc_fiss.specs.Numbers.{node_limit, base, each_part, origin_of}

@@ -1,6 +1,6 @@
 -- Channels in groups, by the node that they leave.
 use Rattle.std.specs.Prelude.{◌≡◌, ℕ, ◌<◌, List, [], length, get_or}
-use Rattle.strc_graph.specs.declared.graph.Fission.{Fission}
+use Rattle.strc_elab_graph.specs.declared.graph.Fission.{Fission}
 use Rattle.strc_fiss.specs.Splitting.{Wire, leaving}
 
 -- each of so many nodes has the channels that leave its parts

@@ -1,10 +1,10 @@
 -- What fission is worth: what the laws on rounds before and after it ask for.
 use Rattle.std.specs.Prelude.{◌≡◌, ◌⊎◌, ℕ, true, List, [], ◌∷◌, cond}
-use Rattle.strc_graph.specs.declared.graph.Fission.{Fission}
-use Rattle.strc_dataflow.specs.FusedUnits.{RoundUnit}
-use Rattle.strc_dataflow.specs.Pieces.{Piece, Piece.Plain, Piece.Whole, ArePieces, AreKept}
-use Rattle.strc_dataflow.specs.Pieces.{units_before, units_after}
-use Rattle.strc_dataflow.specs.Starting.{AreNumbered}
+use Rattle.strc_elab_graph.specs.declared.graph.Fission.{Fission}
+use Rattle.strc_elab_dataflow.specs.FusedUnits.{RoundUnit}
+use Rattle.strc_elab_dataflow.specs.Pieces.{Piece, Piece.Plain, Piece.Whole, ArePieces, AreKept}
+use Rattle.strc_elab_dataflow.specs.Pieces.{units_before, units_after}
+use Rattle.strc_elab_dataflow.specs.Starting.{AreNumbered}
 use Rattle.strc_fiss.specs.Numbers.{base, parts_after}
 use Rattle.strc_fiss.specs.Units.{is_whole, split_units}
 

@@ -2,10 +2,10 @@
 -- and a gather, in this order.
 use Rattle.std.specs.Prelude.{ℕ, zero, suc, ◌+◌, ◌*◌, Bool, cond, nat_lt, List, [], ◌∷◌, ◌++◌}
 use Rattle.std.specs.Prelude.{get_or}
-use Rattle.strc_dataflow.specs.Split.{Parts}
-use Rattle.strc_admissible.specs.Dealing.{share_of}
-use Rattle.strc_graph.specs.declared.graph.TheConstants.{NODE_LIMIT}
-use Rattle.strc_graph.specs.declared.graph.Fission.{Fission}
+use Rattle.strc_elab_dataflow.specs.Split.{Parts}
+use Rattle.strc_sched_laws.specs.Dealing.{share_of}
+use Rattle.strc_elab_graph.specs.declared.graph.TheConstants.{NODE_LIMIT}
+use Rattle.strc_elab_graph.specs.declared.graph.Fission.{Fission}
 use Rattle.strc_fiss.specs.Ways.{whole}
 use Rattle.strc_fiss.specs.declared.split.Origin.{Origin}
 

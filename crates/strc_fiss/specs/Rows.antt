@@ -1,11 +1,11 @@
 -- A worked row: a reader, a filter without state that looks at three items, takes one and gives
 -- one, and a writer. The filter fires four times in a round, and is split in two ways.
 use Rattle.std.specs.Prelude.{◌≡◌, ℕ, List, [], ◌∷◌, None}
-use Rattle.strc_graph.specs.Graphs.{Graph, Channel, NodeCode, Filter, FileReader, FileWriter}
-use Rattle.strc_graph.specs.Graphs.{Scatter, Copy, Gather, OfFilter}
-use Rattle.strc_graph.specs.declared.graph.Fission.{Fission}
-use Rattle.strc_admissible.specs.DealingRow.{peeking, two_ways}
-use Rattle.strc_dataflow.specs.Pieces.{unit_of}
+use Rattle.strc_elab_graph.specs.Graphs.{Graph, Channel, NodeCode, Filter, FileReader, FileWriter}
+use Rattle.strc_elab_graph.specs.Graphs.{Scatter, Copy, Gather, OfFilter}
+use Rattle.strc_elab_graph.specs.declared.graph.Fission.{Fission}
+use Rattle.strc_sched_laws.specs.DealingRow.{peeking, two_ways}
+use Rattle.strc_elab_dataflow.specs.Pieces.{unit_of}
 use Rattle.strc_fiss.specs.Numbers.{each_part, origin_of}
 use Rattle.strc_fiss.specs.Splitting.{port, split_graph, split_greatest}
 use Rattle.strc_fiss.specs.Units.{split_units}

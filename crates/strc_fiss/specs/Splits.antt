@@ -1,7 +1,7 @@
 -- What fission gives.
 use Rattle.std.specs.Prelude.{List}
-use Rattle.strc_graph.specs.NodeView.{GraphParts}
-use Rattle.strc_schedule.specs.Schedules.{ScheduleParts}
+use Rattle.strc_elab_graph.specs.NodeView.{GraphParts}
+use Rattle.strc_sched_orders.specs.Schedules.{ScheduleParts}
 use Rattle.strc_fiss.specs.declared.split.Origin.{Origin}
 
 -- a graph and its schedule, and for each node what it is a part of

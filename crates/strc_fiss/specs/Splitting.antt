@@ -2,10 +2,10 @@
 use Rattle.std.specs.Prelude.{ℕ, zero, suc, ◌+◌, Bool, cond, nat_eq, nat_lt, List, [], ◌∷◌}
 use Rattle.std.specs.Prelude.{◌++◌, map, filter, length, get_or, Option, None}
 use Rattle.std.specs.Prelude.{option_map}
-use Rattle.strc_graph.specs.Graphs.{Graph, Channel, NodeCode, Filter, Joiner, Scatter}
-use Rattle.strc_graph.specs.Graphs.{Copy, Gather, CopiedCode, OfFilter, OfIdentity}
-use Rattle.strc_graph.specs.declared.graph.Fission.{Fission}
-use Rattle.strc_graph.specs.declared.graph.Port.{Port}
+use Rattle.strc_elab_graph.specs.Graphs.{Graph, Channel, NodeCode, Filter, Joiner, Scatter}
+use Rattle.strc_elab_graph.specs.Graphs.{Copy, Gather, CopiedCode, OfFilter, OfIdentity}
+use Rattle.strc_elab_graph.specs.declared.graph.Fission.{Fission}
+use Rattle.strc_elab_graph.specs.declared.graph.Port.{Port}
 use Rattle.strc_fiss.specs.Numbers.{up_to, joined_up_to, is_dealt, last_part, base, each_part}
 
 -- what a copy of a node is a copy of

@@ -2,9 +2,9 @@
 use Rattle.std.specs.Prelude.{ℕ, suc, ◌+◌, ◌*◌, Bool, cond, ◌&&◌, nat_eq, List, [], ◌∷◌, ◌++◌}
 use Rattle.std.specs.Prelude.{map}
 use Rattle.std.specs.List.{flat_map}
-use Rattle.strc_dataflow.specs.FusedUnits.{RoundUnit}
-use Rattle.strc_dataflow.specs.Pieces.{unit_of}
-use Rattle.strc_graph.specs.declared.graph.Fission.{Fission}
+use Rattle.strc_elab_dataflow.specs.FusedUnits.{RoundUnit}
+use Rattle.strc_elab_dataflow.specs.Pieces.{unit_of}
+use Rattle.strc_elab_graph.specs.declared.graph.Fission.{Fission}
 use Rattle.strc_fiss.specs.Numbers.{up_to, is_dealt, base}
 
 -- the units of a scatter of this number, of its copies and of their gather

@@ -3,13 +3,14 @@
 use Rattle.std.specs.Prelude.{ℕ, zero, suc, ◌/◌, ◌%◌, Bool, true, false, cond, not, ◌&&◌}
 use Rattle.std.specs.Prelude.{nat_eq, nat_lt, List, Option, Some, slice_get}
 use Rattle.std.specs.List.{list_any}
-use Rattle.strc_semantics.specs.Filters as filters
-use Rattle.strc_semantics.specs.Filters.{work_rates, push_rate, pop_rate, item_count, window_size}
-use Rattle.strc_graph.specs.Graphs.{Graph, Channel, NodeCode, Filter, Identity, ports_of}
-use Rattle.strc_graph.specs.declared.graph.Fission.{Fission}
+use Rattle.strc_work_meaning.specs.Filters as filters
+use Rattle.strc_work_meaning.specs.Filters.{work_rates, push_rate, pop_rate, item_count}
+use Rattle.strc_work_meaning.specs.Filters.{window_size}
+use Rattle.strc_elab_graph.specs.Graphs.{Graph, Channel, NodeCode, Filter, Identity, ports_of}
+use Rattle.strc_elab_graph.specs.declared.graph.Fission.{Fission}
 use Rattle.strc_balance.specs.Balance.{count_at}
 use Rattle.strc_fuse.specs.Units.{is_outside}
-use Rattle.strc_interval.specs.Stateless.{is_stateless}
+use Rattle.strc_work_writes.specs.Stateless.{is_stateless}
 
 -- the rates of a filter's work
 abbrev pub work_pop : filters.Filter → ℕ

@@ -1,7 +1,7 @@
 -- Declared channels with what they hold, as contracts speak of them.
 use Rattle.std.specs.Prelude.{List, Vec, map}
 use Rattle.std.specs.Global.{Global}
-use Rattle.strc_graph.specs.NodeView.{channel_view}
+use Rattle.strc_elab_graph.specs.NodeView.{channel_view}
 use Rattle.strc_fiss.specs.Splitting as spec
 use Rattle.strc_fiss.specs.declared.channels.Wire.{Wire}
 

@@ -4,8 +4,8 @@ ghost use Rattle.std.specs.Prelude.{◌≡◌, ℕ, suc, ◌+◌, ◌<◌, ◌�
 ghost use Rattle.std.specs.Prelude.{map};
 ghost use Rattle.std.specs.Prelude.{◌∷◌, length, get_or, slice_set};
 ghost use Rattle.std.specs.List.{flat_map};
-ghost use Rattle.strc_graph.specs.Graphs.{IsGraph};
-ghost use Rattle.strc_graph.specs.NodeView.{graph_view, channel_view};
+ghost use Rattle.strc_elab_graph.specs.Graphs.{IsGraph};
+ghost use Rattle.strc_elab_graph.specs.NodeView.{graph_view, channel_view};
 ghost use Rattle.strc_fiss.specs.Numbers.{up_to, joined_up_to, share_at, last_of, last_part, base};
 ghost use Rattle.strc_fiss.specs.Numbers.{is_dealt};
 ghost use Rattle.strc_fiss.specs.Groups.{AreGroups};
@@ -13,8 +13,8 @@ ghost use Rattle.strc_fiss.specs.Splitting as spec;
 ghost use Rattle.strc_fiss.specs.WireView.{wire_view, group_view};
 
 use std::alloc::{AllocError, Global};
-use strc_graph::graph::{Channel, Fission, Graph, Port};
-use strc_schedule::parts::Schedule;
+use strc_elab_graph::graph::{Channel, Fission, Graph, Port};
+use strc_sched_orders::parts::Schedule;
 
 /// A channel, with its greatest and its last number of items in start-up.
 pub(crate) struct Wire {

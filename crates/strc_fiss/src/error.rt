@@ -6,7 +6,7 @@ ghost use Rattle.strc_fiss.specs.declared.error.FissError.TheVariants as refused
 use std::alloc::{AllocError, AllocFailed};
 use std::error::Error;
 use std::fmt;
-use strc_base::memory::NoMemory;
+use strc_lex_names::memory::NoMemory;
 
 /// Why the nodes of a graph aren't split. Channels are numbered from 0.
 #[derive(Clone, Copy, Debug)]

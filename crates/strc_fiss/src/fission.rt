@@ -3,14 +3,14 @@
 ghost use Rattle.std.specs.Prelude.{◌≡◌, ℕ, Bool, true, suc, ◌<◌, ◌≤◌, ◌^◌, All, Err, IfOk, length};
 ghost use Rattle.std.specs.Prelude.{map, slice_get};
 ghost use Rattle.strc_fuse.specs.Units.{round_units};
-ghost use Rattle.strc_graph.specs.Graphs.{IsGraph, JoinsPorts};
-ghost use Rattle.strc_graph.specs.NodeView.{graph_view, node_view};
-ghost use Rattle.strc_schedule.specs.Buffers.{size_limit};
-ghost use Rattle.strc_schedule.specs.Firings.{none_fired};
-ghost use Rattle.strc_schedule.specs.Greedy.{firings_of};
-ghost use Rattle.strc_schedule.specs.Peaks.{AreRaised, HasNodes};
-ghost use Rattle.strc_schedule.specs.Sizing.{round_rates_on, PassesOn};
-ghost use Rattle.strc_schedule.specs.declared.error.ScheduleError.TheVariants as unsized;
+ghost use Rattle.strc_elab_graph.specs.Graphs.{IsGraph, JoinsPorts};
+ghost use Rattle.strc_elab_graph.specs.NodeView.{graph_view, node_view};
+ghost use Rattle.strc_sched_orders.specs.Buffers.{size_limit};
+ghost use Rattle.strc_sched_orders.specs.Firings.{none_fired};
+ghost use Rattle.strc_sched_orders.specs.Greedy.{firings_of};
+ghost use Rattle.strc_sched_orders.specs.Peaks.{AreRaised, HasNodes};
+ghost use Rattle.strc_sched_orders.specs.Sizing.{round_rates_on, PassesOn};
+ghost use Rattle.strc_sched_orders.specs.declared.error.ScheduleError.TheVariants as unsized;
 ghost use Rattle.strc_fiss.specs.Fissions.{IsFission, SplitPasses};
 ghost use Rattle.strc_fiss.specs.Numbers.{node_limit, up_to, share_at, is_dealt, base, each_part};
 ghost use Rattle.strc_fiss.specs.Splitting as spec;
@@ -19,21 +19,21 @@ ghost use Rattle.strc_fiss.specs.WireView.{wire_view};
 ghost use Rattle.strc_fiss.specs.declared.error.FissError.TheVariants as refused;
 
 use crate::channels::{Wire, channels_of, greatest_of, lasts_of, new_wires};
-use crate::copying::copy_units;
 use crate::error::FissError;
 use crate::numbers::bases_of;
 use crate::parts::{new_loops, new_nodes, new_origins};
 use crate::rounds::split_round;
 use crate::split::Split;
+use crate::unit_copies::copy_units;
 use crate::ways::shares_of;
 use std::alloc::Global;
 use strc_balance::counts::Counts;
-use strc_base::memory::NoMemory;
-use strc_graph::graph::{Fission, Graph};
-use strc_schedule::error::ScheduleError;
-use strc_schedule::parts::Schedule;
-use strc_schedule::sizing::sizes;
-use strc_schedule::unit::Unit;
+use strc_elab_graph::graph::{Fission, Graph};
+use strc_lex_names::memory::NoMemory;
+use strc_sched_orders::buffer_sizes::sizes;
+use strc_sched_orders::error::ScheduleError;
+use strc_sched_orders::parts::Schedule;
+use strc_sched_orders::unit::Unit;
 
 /// Splits the filters without state of a graph, identities too, among copies.
 ///
@@ -47,7 +47,7 @@ use strc_schedule::unit::Unit;
 /// The schedule has an entry for each channel, and its round names nodes of the graph. `NodeLimit`
 /// comes where there would be more than 4,096 nodes. `BufferLimit` comes where that isn't so, for
 /// the lowest new channel that would hold more than 16,777,216 items. `NoMemory` can come in place
-/// of any answer, and comes where `sizes` of strc_schedule says.
+/// of any answer, and comes where `sizes` of strc_sched_orders says.
 pub fn fission(
     alloc: Global,
     graph: &Graph,

@@ -2,14 +2,14 @@
 // Gives the graph and the schedule after fission: filters without state are split among copies.
 // The theorem to rely on: `fission`: nodes, channels and units are exactly those of the definition
 // of fission, and the buffers are those that they need.
-// Stands on strc_rate, which tells filters without state, on strc_schedule, whose schedules and
-// sizes these are, on strc_balance, whose counts it takes, on strc_graph, whose nodes it makes, on
-// strc_fuse, whose view of units it shares, on strc_dataflow, strc_admissible,
-// whose laws are on split nodes, and on strc_code, strc_semantics, strc_syntax and strc_base.
+// Stands on strc_rate, which tells filters without state, on strc_sched_orders, whose schedules and
+// sizes these are, on strc_balance, whose counts it takes, on strc_elab_graph, whose nodes it
+// makes, on strc_fuse, whose view of units it shares, on strc_elab_dataflow, strc_sched_laws, whose
+// laws are on split nodes, and on strc_work_code, strc_work_meaning, strc_parse_tree and
+// strc_lex_names.
 #![tactic(auto)]
 
 mod channels;
-mod copying;
 pub mod error;
 pub mod fission;
 pub mod laws;
@@ -17,4 +17,5 @@ mod numbers;
 mod parts;
 mod rounds;
 pub mod split;
+mod unit_copies;
 mod ways;

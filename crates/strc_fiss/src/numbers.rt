@@ -6,7 +6,7 @@ ghost use Rattle.strc_fiss.specs.declared.error.FissError.TheVariants as refused
 
 use crate::error::FissError;
 use std::alloc::Global;
-use strc_graph::graph::{Fission, NODE_LIMIT};
+use strc_elab_graph::graph::{Fission, NODE_LIMIT};
 
 /// The number of each node's first part, and after them how many parts there are. `NodeLimit` comes
 /// where there are more than 4,096.

@@ -3,19 +3,19 @@
 ghost use Rattle.std.specs.Prelude.{◌≡◌, suc, ◌+◌, ◌<◌, ◌≤◌, ◌^◌, ◌++◌, IfOk, OnOk, Some};
 ghost use Rattle.std.specs.Prelude.{length, map};
 ghost use Rattle.std.specs.Prelude.{cond, get_or, nat_lt, option_map, slice_get};
-ghost use Rattle.strc_graph.specs.NodeView.{node_view};
+ghost use Rattle.strc_elab_graph.specs.NodeView.{node_view};
 ghost use Rattle.strc_fiss.specs.Numbers.{up_to, share_at, last_of, first_of, base, each_part};
 ghost use Rattle.strc_fiss.specs.Numbers.{origin_of, is_dealt};
 ghost use Rattle.strc_fiss.specs.Splitting as spec;
 ghost use Rattle.strc_fiss.specs.declared.split.Origin.{Origin};
 
-use crate::copying::copied_of;
 use crate::numbers::part_count;
 use crate::split::Origin;
+use crate::unit_copies::copied_of;
 use std::alloc::{AllocError, Global};
-use strc_base::memory::NoMemory;
-use strc_graph::copying::copy_node;
-use strc_graph::graph::{Fission, Graph, Node};
+use strc_elab_graph::graph::{Fission, Graph, Node};
+use strc_elab_graph::node_copy::copy_node;
+use strc_lex_names::memory::NoMemory;
 
 /// The parts of all nodes.
 pub(crate) fn new_nodes(

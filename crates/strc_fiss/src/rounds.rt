@@ -3,14 +3,14 @@
 ghost use Rattle.std.specs.Prelude.{◌≡◌, ℕ, suc, ◌+◌, ◌<◌, ◌^◌, ◌++◌, ◌∷◌, [], All, IfOk, IfSome};
 ghost use Rattle.std.specs.Prelude.{IfNone, OnOk, true, length, map, slice_index};
 ghost use Rattle.strc_fuse.specs.Units.{round_unit, round_units};
-ghost use Rattle.strc_schedule.specs.Peaks.{HasNodes};
-ghost use Rattle.strc_dataflow.specs.Pieces as pieces;
+ghost use Rattle.strc_sched_orders.specs.Peaks.{HasNodes};
+ghost use Rattle.strc_elab_dataflow.specs.Pieces as pieces;
 ghost use Rattle.strc_fiss.specs.Numbers.{up_to, share_at, is_dealt, base};
 ghost use Rattle.strc_fiss.specs.Units as spec;
 
 use std::alloc::{AllocError, Global};
-use strc_graph::graph::Fission;
-use strc_schedule::unit::Unit;
+use strc_elab_graph::graph::Fission;
+use strc_sched_orders::unit::Unit;
 
 /// The units of a round after fission.
 pub(crate) fn split_round(

@@ -1,17 +1,17 @@
 // A graph and its schedule after fission.
 
 ghost use Rattle.std.specs.Prelude.{◌≡◌, ℕ, Err, OnOk, OnErr};
-ghost use Rattle.strc_graph.specs.NodeView.{graph_view};
+ghost use Rattle.strc_elab_graph.specs.NodeView.{graph_view};
 ghost use Rattle.strc_fuse.specs.Fusion.{FusedPass, IsFusion};
 ghost use Rattle.strc_fuse.specs.Laws.{CanBeFused};
 ghost use Rattle.strc_fuse.specs.declared.error.FuseError.TheVariants as refused;
 
 use std::alloc::Global;
 use std::marker::Model;
+use strc_elab_graph::graph::Graph;
 use strc_fuse::error::FuseError;
-use strc_fuse::fusing::fuse;
-use strc_graph::graph::Graph;
-use strc_schedule::parts::Schedule;
+use strc_fuse::fuse::fuse;
+use strc_sched_orders::parts::Schedule;
 
 /// What a node after fission is a part of.
 #[derive(Clone, Copy)]
@@ -42,8 +42,8 @@ impl Drop for Split {
 
 impl Model for Split {
     ghost use Rattle.std.specs.Coded.{codes};
-    ghost use Rattle.strc_graph.specs.contracts.graph.Node as node;
-    ghost use Rattle.strc_graph.specs.contracts.graph.Channel as channel;
+    ghost use Rattle.strc_elab_graph.specs.contracts.graph.Node as node;
+    ghost use Rattle.strc_elab_graph.specs.contracts.graph.Channel as channel;
     ghost use Rattle.strc_fiss.specs.Splits.{SplitParts};
 
     ghost Value = { SplitParts };
@@ -56,7 +56,7 @@ impl Model for Split {
       origins = s.origins.items;
     } };
 
-    ghost use Rattle.strc_graph.specs.NodeView.{graph_view};
+    ghost use Rattle.strc_elab_graph.specs.NodeView.{graph_view};
     ghost use Rattle.strc_fuse.specs.Laws.{CanBeFused};
 
     ghost invariant = { λ s. CanBeFused (graph_view s.graph) s.schedule };

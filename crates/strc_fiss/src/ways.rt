@@ -5,22 +5,22 @@ ghost use Rattle.std.specs.Prelude.{All, IfOk, map, cond};
 ghost use Rattle.std.specs.Prelude.{length, get_or, slice_get, false, not, Some};
 ghost use Rattle.strc_balance.specs.Balance.{count_at};
 ghost use Rattle.strc_fuse.specs.Units.{is_outside};
-ghost use Rattle.strc_graph.specs.Graphs as graphs;
-ghost use Rattle.strc_graph.specs.Graphs.{JoinsPorts};
-ghost use Rattle.strc_graph.specs.NodeView.{graph_view, node_view, channel_view};
-ghost use Rattle.strc_semantics.specs.Filters as filters;
-ghost use Rattle.strc_semantics.specs.Filters.{filter_of};
-ghost use Rattle.strc_interval.specs.Stateless.{is_stateless};
+ghost use Rattle.strc_elab_graph.specs.Graphs as graphs;
+ghost use Rattle.strc_elab_graph.specs.Graphs.{JoinsPorts};
+ghost use Rattle.strc_elab_graph.specs.NodeView.{graph_view, node_view, channel_view};
+ghost use Rattle.strc_work_meaning.specs.Filters as filters;
+ghost use Rattle.strc_work_meaning.specs.Filters.{filter_of};
+ghost use Rattle.strc_work_writes.specs.Stateless.{is_stateless};
 ghost use Rattle.strc_fiss.specs.Ways as spec;
 
 use std::alloc::{AllocError, Global};
 use strc_balance::counts::Counts;
-use strc_base::memory::NoMemory;
-use strc_code::code::Code;
-use strc_graph::graph::{Channel, Fission, Graph, Node};
+use strc_elab_graph::graph::{Channel, Fission, Graph, Node};
+use strc_lex_names::memory::NoMemory;
+use strc_parse_tree::tree::ItemType;
 use strc_rate::stateless::stateless;
-use strc_semantics::body::Body;
-use strc_syntax::tree::ItemType;
+use strc_work_code::code::Code;
+use strc_work_meaning::body::Body;
 
 /// A node that is not split.
 const WHOLE: Fission = Fission {

@@ -4,13 +4,14 @@ use Rattle.std.proofs.Common.{Bool, true, false, cond, eqb, List, [], ◌∷◌}
 use Rattle.std.proofs.Common.{All, arith, inl, inr, ◌⊎◌, eq-eqb, eqb-true}
 use Rattle.strc_startup.specs.Startup.{popped, supply}
 use Rattle.strc_startup.specs.declared.channel_rates.ChannelRates.{ChannelRates}
-use Rattle.strc_schedule.specs.Firings.{Firings, turns_of, fired, reach, HasWindow}
-use Rattle.strc_schedule.specs.Order.{firing_count, IsOrder}
-use Rattle.strc_schedule.specs.Rounds.{IsPastPrework}
-use Rattle.strc_schedule.proofs.Repeating.{supply_more, popped_more, pops_alike, past_prework_after}
-use Rattle.strc_dataflow.proofs.Diamond.{apart_other}
-use Rattle.strc_dataflow.proofs.Links.{Link, takes, sum_of, sum_takes, Passes, easier}
-use Rattle.strc_admissible.proofs.Orders.{firing_count_is}
+use Rattle.strc_sched_orders.specs.Firings.{Firings, turns_of, fired, reach, HasWindow}
+use Rattle.strc_sched_orders.specs.Order.{firing_count, IsOrder}
+use Rattle.strc_sched_orders.specs.Rounds.{IsPastPrework}
+use Rattle.strc_sched_orders.proofs.Repeating.{supply_more, popped_more, pops_alike}
+use Rattle.strc_sched_orders.proofs.Repeating.{past_prework_after}
+use Rattle.strc_elab_dataflow.proofs.Diamond.{apart_other}
+use Rattle.strc_elab_dataflow.proofs.Links.{Link, takes, sum_of, sum_takes, Passes, easier}
+use Rattle.strc_sched_laws.proofs.Orders.{firing_count_is}
 
 -- a channel as its source gives to it
 abbrev pub gift : ChannelRates → Link

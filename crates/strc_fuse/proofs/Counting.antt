@@ -2,14 +2,14 @@
 use Rattle.std.proofs.Common.{◌≡◌, refl, ap, ◌∙◌, ℕ, zero, suc, ◌+◌, ◌*◌, ◌<◌, List, [], ◌∷◌}
 use Rattle.std.proofs.Common.{◌++◌, arith, inl, inr, ◌⊎◌}
 use Rattle.std.proofs.lemmas.Bool.{cases_lt}
-use Rattle.strc_dataflow.specs.Order as generic
-use Rattle.strc_schedule.specs.declared.unit as units
-use Rattle.strc_schedule.specs.Greedy as order
-use Rattle.strc_schedule.specs.Order as order_lists
-use Rattle.strc_schedule.specs.Order.{firing_count}
-use Rattle.strc_schedule.proofs.FiringCounts.{firing_count_append}
-use Rattle.strc_dataflow.specs.Fused.{repeated}
-use Rattle.strc_dataflow.specs.FusedUnits.{RoundUnit, firings_of, joined_unit}
+use Rattle.strc_elab_dataflow.specs.Order as generic
+use Rattle.strc_sched_orders.specs.declared.unit as units
+use Rattle.strc_sched_orders.specs.Greedy as order
+use Rattle.strc_sched_orders.specs.Order as order_lists
+use Rattle.strc_sched_orders.specs.Order.{firing_count}
+use Rattle.strc_sched_orders.proofs.FiringCounts.{firing_count_append}
+use Rattle.strc_elab_dataflow.specs.Fused.{repeated}
+use Rattle.strc_elab_dataflow.specs.FusedUnits.{RoundUnit, firings_of, joined_unit}
 use Rattle.strc_fuse.specs.Units.{round_units}
 
 pub count_repeated : (turns : ℕ) (nodes : List ℕ) (node : ℕ)

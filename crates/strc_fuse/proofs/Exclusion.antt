@@ -5,19 +5,19 @@ use Rattle.std.proofs.Common.{All, arith}
 use Rattle.std.specs.Prelude.{max, slice_index}
 use Rattle.std.proofs.lemmas.List.{length-map}
 use Rattle.std.proofs.lemmas.Option.{slice_get-get_or}
-use Rattle.strc_graph.specs.Graphs.{Graph}
+use Rattle.strc_elab_graph.specs.Graphs.{Graph}
 use Rattle.strc_startup.specs.Rates.{rates_of}
 use Rattle.strc_startup.specs.declared.channel_rates.ChannelRates.{ChannelRates}
-use Rattle.strc_schedule.specs.Buffers.{peak_fill, size_limit}
-use Rattle.strc_schedule.specs.Firings.{Firings, none_fired}
-use Rattle.strc_schedule.specs.Greedy.{firings_of}
-use Rattle.strc_schedule.specs.Peaks.{AreRaised}
-use Rattle.strc_schedule.specs.Schedules.{IsSchedule, ScheduleParts}
-use Rattle.strc_schedule.specs.RoundRates.{round_rates_of, round_rates_of_channel}
-use Rattle.strc_schedule.specs.Sizing.{PassesOn, all_rates_on, round_rates_on}
-use Rattle.strc_schedule.proofs.Deciding.{one_order}
-use Rattle.strc_dataflow.specs.FusedUnits as rounds
-use Rattle.strc_dataflow.specs.FusedUnits.{AreFused, RoundUnit}
+use Rattle.strc_sched_orders.specs.Buffers.{peak_fill, size_limit}
+use Rattle.strc_sched_orders.specs.Firings.{Firings, none_fired}
+use Rattle.strc_sched_orders.specs.Greedy.{firings_of}
+use Rattle.strc_sched_orders.specs.Peaks.{AreRaised}
+use Rattle.strc_sched_orders.specs.Schedules.{IsSchedule, ScheduleParts}
+use Rattle.strc_sched_orders.specs.RoundRates.{round_rates_of, round_rates_of_channel}
+use Rattle.strc_sched_orders.specs.Sizing.{PassesOn, all_rates_on, round_rates_on}
+use Rattle.strc_sched_orders.proofs.Deciding.{one_order}
+use Rattle.strc_elab_dataflow.specs.FusedUnits as rounds
+use Rattle.strc_elab_dataflow.specs.FusedUnits.{AreFused, RoundUnit}
 use Rattle.strc_fuse.specs.Units.{is_free, round_units}
 use Rattle.strc_fuse.proofs.Counting.{firings_same}
 use Rattle.strc_fuse.proofs.OneFusion.{one_fusion}

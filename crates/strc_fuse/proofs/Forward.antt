@@ -9,24 +9,27 @@ use Rattle.std.specs.List.{AllByRecursion}
 use Rattle.std.proofs.lemmas.Bool.{cases_lt}
 use Rattle.std.proofs.lemmas.List.{length-replicate, get_or-replicate}
 use Rattle.std.proofs.lemmas.Option.{none-some, slice_get-get_or, same_Some}
-use Rattle.strc_graph.specs.FlatGraphs.{IsProgram}
-use Rattle.strc_graph.specs.Graphs as graphs
-use Rattle.strc_graph.specs.Graphs.{Channel, Graph, NodeCode, SplitterCode}
-use Rattle.strc_graph.specs.Carriers.{splitter_carries}
-use Rattle.strc_stream.specs.Instances.{Stream, Streams, Filter, Identity, FileReader, FileWriter}
-use Rattle.strc_stream.specs.Instances.{Pipeline, SplitJoin, FeedbackLoop, Done, More}
-use Rattle.strc_stream.specs.Types.{IsWellTyped, is_int, splitter_carried}
-use Rattle.strc_stream.specs.Flattening.{nodes_of, row_nodes, size_of, splitter_nodes, joiner_nodes}
-use Rattle.strc_stream.specs.Flattening.{outer_loops, row_loops, tree_of}
-use Rattle.strc_stream.proofs.OneGraph.{one_graph}
+use Rattle.strc_elab_graph.specs.FlatGraphs.{IsProgram}
+use Rattle.strc_elab_graph.specs.Graphs as graphs
+use Rattle.strc_elab_graph.specs.Graphs.{Channel, Graph, NodeCode, SplitterCode}
+use Rattle.strc_elab_graph.specs.Carriers.{splitter_carries}
+use Rattle.strc_elab_stream.specs.Instances.{Stream, Streams, Filter, Identity, FileReader}
+use Rattle.strc_elab_stream.specs.Instances.{FileWriter}
+use Rattle.strc_elab_stream.specs.Instances.{Pipeline, SplitJoin, FeedbackLoop, Done, More}
+use Rattle.strc_elab_stream.specs.Types.{IsWellTyped, is_int, splitter_carried}
+use Rattle.strc_elab_stream.specs.Flattening.{nodes_of, row_nodes, size_of, splitter_nodes}
+use Rattle.strc_elab_stream.specs.Flattening.{joiner_nodes}
+use Rattle.strc_elab_stream.specs.Flattening.{outer_loops, row_loops, tree_of}
+use Rattle.strc_elab_stream.proofs.OneGraph.{one_graph}
 use Rattle.strc_startup.specs.Rates.{rates_of, rates_of_channel}
 use Rattle.strc_startup.specs.declared.channel_rates.ChannelRates.{ChannelRates}
-use Rattle.strc_schedule.specs.Ranges.{IsOuter}
-use Rattle.strc_stream.specs.Wires.{Target, wire, wires, row_wires, branch_wires, splitter_wires}
-use Rattle.strc_stream.specs.Wires.{joiner_wires, split_wires, to_port, target_after, wired}
-use Rattle.strc_stream.proofs.Channels.{each_append, each_follows, each_all}
-use Rattle.strc_stream.proofs.Loops.{loops_are_by_node}
-use Rattle.strc_stream.proofs.Whole.{wires_are_flat}
+use Rattle.strc_sched_orders.specs.Ranges.{IsOuter}
+use Rattle.strc_elab_stream.specs.Wires.{Target, wire, wires, row_wires, branch_wires}
+use Rattle.strc_elab_stream.specs.Wires.{splitter_wires}
+use Rattle.strc_elab_stream.specs.Wires.{joiner_wires, split_wires, to_port, target_after, wired}
+use Rattle.strc_elab_stream.proofs.Channels.{each_append, each_follows, each_all}
+use Rattle.strc_elab_stream.proofs.Loops.{loops_are_by_node}
+use Rattle.strc_elab_stream.proofs.Whole.{wires_are_flat}
 
 -- what a stream gives goes to no node below a bound
 abbrev pub TargetFrom : (bound : ℕ) → Option Target → Type 0

@@ -2,7 +2,7 @@
 use Rattle.std.proofs.Common.{◌≡◌, refl, sym, ap, ◌∙◌, subst, ℕ, zero, suc, ◌+◌, ◌<◌, ◌≤◌}
 use Rattle.std.proofs.Common.{Bool, true, false, List, [], ◌∷◌, ◌++◌, length, take, get_or, arith}
 use Rattle.std.proofs.lemmas.Bool.{true≢false}
-use Rattle.strc_dataflow.specs.FusedUnits.{AreFree}
+use Rattle.strc_elab_dataflow.specs.FusedUnits.{AreFree}
 
 module _ (free : ℕ → Bool) where
   pub free_more : (xs : List ℕ) (k d : ℕ) → k < length xs → AreFree free (take k xs)

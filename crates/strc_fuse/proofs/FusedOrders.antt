@@ -7,20 +7,21 @@ use Rattle.std.proofs.lemmas.Bool.{cases_lt}
 use Rattle.std.proofs.Math.Nat.{mul-div_cancel_left}
 use Rattle.strc_startup.specs.Startup.{popped, supply}
 use Rattle.strc_startup.specs.declared.channel_rates.ChannelRates.{ChannelRates}
-use Rattle.strc_schedule.specs.Firings.{Firings}
-use Rattle.strc_schedule.specs.Order.{firing_count, IsOrder}
-use Rattle.strc_schedule.specs.Rounds.{IsPastPrework, RoundBalances}
-use Rattle.strc_schedule.proofs.FiringCounts.{firing_count_append}
-use Rattle.strc_dataflow.specs.Fused.{repeated}
-use Rattle.strc_dataflow.specs.FusedUnits.{RoundUnit, firings_of, nodes_of, joined_unit, AreFree}
-use Rattle.strc_dataflow.specs.FusedUnits.{IsFused, AreFused}
-use Rattle.strc_dataflow.proofs.Merging.{fused_passes}
-use Rattle.strc_dataflow.proofs.Passing.{IsClear, IsForward}
+use Rattle.strc_sched_orders.specs.Firings.{Firings}
+use Rattle.strc_sched_orders.specs.Order.{firing_count, IsOrder}
+use Rattle.strc_sched_orders.specs.Rounds.{IsPastPrework, RoundBalances}
+use Rattle.strc_sched_orders.proofs.FiringCounts.{firing_count_append}
+use Rattle.strc_elab_dataflow.specs.Fused.{repeated}
+use Rattle.strc_elab_dataflow.specs.FusedUnits.{RoundUnit, firings_of, nodes_of, joined_unit}
+use Rattle.strc_elab_dataflow.specs.FusedUnits.{AreFree}
+use Rattle.strc_elab_dataflow.specs.FusedUnits.{IsFused, AreFused}
+use Rattle.strc_elab_dataflow.proofs.Merging.{fused_passes}
+use Rattle.strc_elab_dataflow.proofs.Passing.{IsClear, IsForward}
 use Rattle.strc_fuse.specs.Units.{IsPlaced, ArePlaced}
 use Rattle.strc_fuse.proofs.Channels.{link_of, order_on, order_from, passes_from, from_passes}
 use Rattle.strc_fuse.proofs.Channels.{sum_gives, sum_taken}
 use Rattle.strc_fuse.proofs.Counting.{count_repeated, count_joined, occurs, times_zero, in_either}
-use Rattle.strc_admissible.proofs.Orders.{firing_count_is}
+use Rattle.strc_sched_laws.proofs.Orders.{firing_count_is}
 
 cancel : (h x y : ℕ) → 0 < h → h * x ≡ h * y → x ≡ y
 cancel h x y some e =

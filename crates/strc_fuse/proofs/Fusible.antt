@@ -4,26 +4,26 @@ use Rattle.std.proofs.Common.{List, All, map, length, get_or}
 use Rattle.std.proofs.Common.{Bool, false, Some, arith}
 use Rattle.std.proofs.lemmas.List.{length-map}
 use Rattle.std.proofs.lemmas.Option.{slice_get-get_or}
-use Rattle.strc_graph.specs.Graphs.{NodeCode, Graph}
-use Rattle.strc_graph.specs.Graphs as graphs
-use Rattle.strc_graph.specs.Rates.{fires_by_rounds}
+use Rattle.strc_elab_graph.specs.Graphs.{NodeCode, Graph}
+use Rattle.strc_elab_graph.specs.Graphs as graphs
+use Rattle.strc_elab_graph.specs.Rates.{fires_by_rounds}
 use Rattle.strc_balance.specs.Balance.{count_at}
 use Rattle.strc_startup.specs.Rates.{rates_of, rates_of_channel}
 use Rattle.strc_startup.specs.declared.channel_rates.ChannelRates.{ChannelRates}
-use Rattle.strc_schedule.specs.declared.unit as units
-use Rattle.strc_schedule.specs.Buffers.{buffer_size, peak_fill}
-use Rattle.strc_schedule.specs.Firings.{Firings, none_fired, fill}
-use Rattle.strc_schedule.specs.Greedy as order
-use Rattle.strc_schedule.specs.Order.{firing_count, IsOrder}
-use Rattle.strc_schedule.specs.Peaks.{AreRaised}
-use Rattle.strc_schedule.specs.RoundRates.{is_copy}
-use Rattle.strc_schedule.specs.Rounds.{IsPastPrework, RoundBalances}
-use Rattle.strc_schedule.specs.Schedules.{ScheduleParts, IsRunnable, IsOrderOf}
-use Rattle.strc_schedule.specs.Sizing.{IsCovered, HasFills, round_rates_on, all_rates_on}
-use Rattle.strc_schedule.proofs.Continuing.{raised_on}
-use Rattle.strc_schedule.proofs.RoundRates.{round_rates_are_rates}
-use Rattle.strc_schedule.proofs.Runnable.{raised_are_sizes}
-use Rattle.strc_dataflow.specs.FusedUnits.{RoundUnit, AreFused, firings_of}
+use Rattle.strc_sched_orders.specs.declared.unit as units
+use Rattle.strc_sched_orders.specs.Buffers.{buffer_size, peak_fill}
+use Rattle.strc_sched_orders.specs.Firings.{Firings, none_fired, fill}
+use Rattle.strc_sched_orders.specs.Greedy as order
+use Rattle.strc_sched_orders.specs.Order.{firing_count, IsOrder}
+use Rattle.strc_sched_orders.specs.Peaks.{AreRaised}
+use Rattle.strc_sched_orders.specs.RoundRates.{is_copy}
+use Rattle.strc_sched_orders.specs.Rounds.{IsPastPrework, RoundBalances}
+use Rattle.strc_sched_orders.specs.Schedules.{ScheduleParts, IsRunnable, IsOrderOf}
+use Rattle.strc_sched_orders.specs.Sizing.{IsCovered, HasFills, round_rates_on, all_rates_on}
+use Rattle.strc_sched_orders.proofs.Continuing.{raised_on}
+use Rattle.strc_sched_orders.proofs.RoundRates.{round_rates_are_rates}
+use Rattle.strc_sched_orders.proofs.Runnable.{raised_are_sizes}
+use Rattle.strc_elab_dataflow.specs.FusedUnits.{RoundUnit, AreFused, firings_of}
 use Rattle.strc_fuse.specs.Fusion.{IsFusible}
 use Rattle.strc_fuse.specs.Units.{is_free, round_units, ArePlaced}
 use Rattle.strc_fuse.proofs.Counting.{firings_same}

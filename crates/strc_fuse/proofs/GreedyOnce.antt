@@ -2,13 +2,13 @@
 use Rattle.std.proofs.Common.{◌≡◌, ◌∙◌, refl, sym, ap, subst, ℕ, ◌+◌, List, [], ◌∷◌}
 use Rattle.std.proofs.Common.{length, arith}
 use Rattle.strc_startup.specs.declared.channel_rates.ChannelRates.{ChannelRates}
-use Rattle.strc_schedule.specs.declared.unit as units
-use Rattle.strc_schedule.specs.Firings.{Firings, fired}
-use Rattle.strc_schedule.specs.Greedy.{firings_of, less_turns, IsNext, IsGreedy, IsGreedyOrder}
-use Rattle.strc_schedule.specs.Order.{firing_count, repeated}
-use Rattle.strc_schedule.proofs.FiringCounts.{firing_count_append}
-use Rattle.strc_schedule.proofs.Deciding.{same_node, same_turns, fires}
-use Rattle.strc_dataflow.specs.FusedUnits.{RoundUnit}
+use Rattle.strc_sched_orders.specs.declared.unit as units
+use Rattle.strc_sched_orders.specs.Firings.{Firings, fired}
+use Rattle.strc_sched_orders.specs.Greedy.{firings_of, less_turns, IsNext, IsGreedy, IsGreedyOrder}
+use Rattle.strc_sched_orders.specs.Order.{firing_count, repeated}
+use Rattle.strc_sched_orders.proofs.FiringCounts.{firing_count_append}
+use Rattle.strc_sched_orders.proofs.Deciding.{same_node, same_turns, fires}
+use Rattle.strc_elab_dataflow.specs.FusedUnits.{RoundUnit}
 use Rattle.strc_fuse.specs.Laws.{AllFireNodes}
 use Rattle.strc_fuse.specs.Units.{round_unit, round_units}
 

@@ -4,16 +4,16 @@ use Rattle.std.proofs.Common.{Bool, true, List, [], ◌∷◌, ◌++◌, get_or,
 use Rattle.std.proofs.Common.{inl, inr, ◌⊎◌}
 use Rattle.std.proofs.lemmas.Bool.{cases_eq}
 use Rattle.strc_startup.specs.declared.channel_rates.ChannelRates.{ChannelRates}
-use Rattle.strc_schedule.specs.declared.unit as units
-use Rattle.strc_schedule.specs.Firings.{Firings, turns_of, fired}
-use Rattle.strc_schedule.specs.Greedy.{firings_of, less_turns, IsGreedy, IsGreedyOrder}
-use Rattle.strc_schedule.specs.Order.{firing_count}
-use Rattle.strc_schedule.specs.Peaks.{HasNodes}
-use Rattle.strc_schedule.specs.Ranges.{HasNodesFrom, IsOuter, HasOneUnit}
-use Rattle.strc_schedule.proofs.FiringCounts.{firing_count_append, turns_same, turns_other}
-use Rattle.strc_schedule.proofs.OuterNodes.{outer_nodes_have_one_unit}
-use Rattle.strc_schedule.proofs.Ranges.{unit_fires}
-use Rattle.strc_dataflow.specs.FusedUnits.{RoundUnit, AreFree, nodes_of}
+use Rattle.strc_sched_orders.specs.declared.unit as units
+use Rattle.strc_sched_orders.specs.Firings.{Firings, turns_of, fired}
+use Rattle.strc_sched_orders.specs.Greedy.{firings_of, less_turns, IsGreedy, IsGreedyOrder}
+use Rattle.strc_sched_orders.specs.Order.{firing_count}
+use Rattle.strc_sched_orders.specs.Peaks.{HasNodes}
+use Rattle.strc_sched_orders.specs.Ranges.{HasNodesFrom, IsOuter, HasOneUnit}
+use Rattle.strc_sched_orders.proofs.FiringCounts.{firing_count_append, turns_same, turns_other}
+use Rattle.strc_sched_orders.proofs.OuterNodes.{outer_nodes_have_one_unit}
+use Rattle.strc_sched_orders.proofs.Ranges.{unit_fires}
+use Rattle.strc_elab_dataflow.specs.FusedUnits.{RoundUnit, AreFree, nodes_of}
 use Rattle.strc_fuse.specs.Units.{round_unit, round_units, IsPlaced, ArePlaced}
 use Rattle.strc_fuse.proofs.Counting.{occurs}
 

@@ -5,15 +5,15 @@ use Rattle.std.proofs.Common.{◌&&◌, cond, arith, inl, inr}
 use Rattle.std.proofs.lemmas.Bool.{cases_lt, true≢false}
 use Rattle.std.proofs.lemmas.List.{length-map, get_or_past}
 use Rattle.std.proofs.lemmas.List.Elements.{All-cons, All-nil}
-use Rattle.strc_graph.specs.Graphs.{Graph}
+use Rattle.strc_elab_graph.specs.Graphs.{Graph}
 use Rattle.strc_balance.specs.Balance.{count_at}
 use Rattle.strc_startup.specs.Rates.{rates_of, rates_of_channel}
 use Rattle.strc_startup.specs.declared.channel_rates.ChannelRates.{ChannelRates}
-use Rattle.strc_schedule.specs.declared.unit as units
-use Rattle.strc_schedule.specs.Buffers.{peak_fill}
-use Rattle.strc_schedule.specs.Firings.{Firings, none_fired, fired, fill}
-use Rattle.strc_schedule.specs.Greedy.{firings_of, less_turns, IsGreedy}
-use Rattle.strc_schedule.specs.Peaks.{HasNodes}
+use Rattle.strc_sched_orders.specs.declared.unit as units
+use Rattle.strc_sched_orders.specs.Buffers.{peak_fill}
+use Rattle.strc_sched_orders.specs.Firings.{Firings, none_fired, fired, fill}
+use Rattle.strc_sched_orders.specs.Greedy.{firings_of, less_turns, IsGreedy}
+use Rattle.strc_sched_orders.specs.Peaks.{HasNodes}
 use Rattle.strc_fuse.specs.Laws.{FusedUnitsStay, FusedUnitsCount, ProgramsArePlaced}
 use Rattle.strc_fuse.specs.Laws.{SchedulesCanBeFused}
 use Rattle.strc_fuse.specs.Rows.{FusedRow}
@@ -21,7 +21,7 @@ use Rattle.strc_fuse.specs.Units.{is_free, is_outside, is_whole_node}
 use Rattle.strc_fuse.proofs.Forward.{node_is_outer}
 use Rattle.strc_fuse.proofs.FusedOrders.{fused_counts_are, fused_stays, fused_placed}
 use Rattle.strc_fuse.proofs.GreedyUnits.{greedy_placed}
-use Rattle.strc_dataflow.proofs.FusionRow.{fusion_row}
+use Rattle.strc_elab_dataflow.proofs.FusionRow.{fusion_row}
 
 pub fused_units_stay : FusedUnitsStay
 fused_units_stay channels counts round free limit units fused past balanced placed is valid = (

@@ -5,16 +5,16 @@ use Rattle.std.proofs.Common.{false, List, [], ◌∷◌, ◌++◌, length, drop
 use Rattle.std.proofs.Common.{All, arith, Result, Ok}
 use Rattle.std.proofs.Common.{Err, OnOk, MatchBool, inl, inr}
 use Rattle.std.proofs.lemmas.Bool.{cases_lt, true≢false}
-use Rattle.strc_schedule.specs.declared.unit as units
-use Rattle.strc_schedule.specs.Order.{firing_count}
-use Rattle.strc_schedule.specs.Peaks.{HasNodes}
-use Rattle.strc_schedule.proofs.FiringCounts.{firing_count_append, turns_same, turns_other}
-use Rattle.strc_dataflow.specs.Fused.{repeated}
-use Rattle.strc_dataflow.specs.FusedUnits.{RoundUnit, AreFree, Joins, AreFused, joined_unit}
-use Rattle.strc_dataflow.specs.FusedUnits.{nodes_of}
+use Rattle.strc_sched_orders.specs.declared.unit as units
+use Rattle.strc_sched_orders.specs.Order.{firing_count}
+use Rattle.strc_sched_orders.specs.Peaks.{HasNodes}
+use Rattle.strc_sched_orders.proofs.FiringCounts.{firing_count_append, turns_same, turns_other}
+use Rattle.strc_elab_dataflow.specs.Fused.{repeated}
+use Rattle.strc_elab_dataflow.specs.FusedUnits.{RoundUnit, AreFree, Joins, AreFused, joined_unit}
+use Rattle.strc_elab_dataflow.specs.FusedUnits.{nodes_of}
 use Rattle.strc_fuse.specs.Steps.{AreShares, AreTooLong, IsMarked, GoesOn}
 use Rattle.strc_fuse.specs.Units.{round_unit, round_units}
-use Rattle.strc_fuse.specs.declared.joining.Shares.{Shares}
+use Rattle.strc_fuse.specs.declared.unit_join.Shares.{Shares}
 use Rattle.strc_fuse.specs.declared.units.LastUnit.{LastUnit}
 use Rattle.strc_fuse.proofs.FusedOrders.{absent_in}
 use Rattle.strc_fuse.proofs.Steps.{shares_join}

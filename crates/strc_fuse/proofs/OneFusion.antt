@@ -3,8 +3,8 @@ use Rattle.std.proofs.Common.{◌≡◌, refl, sym, ap, ◌∙◌, subst, ℕ, z
 use Rattle.std.proofs.Common.{Bool, List, [], ◌∷◌, ◌++◌, length, arith, inl, inr, length-append}
 use Rattle.std.proofs.lemmas.Nat.Gcd.{same_from_IsGcd}
 use Rattle.std.proofs.Math.Nat.{mul-div_cancel_left}
-use Rattle.strc_dataflow.specs.Fused.{repeated}
-use Rattle.strc_dataflow.specs.FusedUnits.{RoundUnit, Joins, IsFused, joined_unit}
+use Rattle.strc_elab_dataflow.specs.Fused.{repeated}
+use Rattle.strc_elab_dataflow.specs.FusedUnits.{RoundUnit, Joins, IsFused, joined_unit}
 use Rattle.strc_fuse.specs.Laws.{FiresNodes, AllFireNodes, OneFusion, NothingFused}
 use Rattle.strc_fuse.proofs.Steps.{length_repeated}
 

@@ -1,15 +1,15 @@
 -- Planned schedules can be fused, and are planned then.
 use Rattle.std.proofs.Common.{◌≡◌, refl, List, All, get_or, false, Some, arith}
 use Rattle.std.proofs.lemmas.Option.{slice_get-get_or}
-use Rattle.strc_graph.specs.Graphs as graphs
-use Rattle.strc_graph.specs.Graphs.{NodeCode, Graph}
-use Rattle.strc_graph.specs.Rates.{fires_by_rounds}
+use Rattle.strc_elab_graph.specs.Graphs as graphs
+use Rattle.strc_elab_graph.specs.Graphs.{NodeCode, Graph}
+use Rattle.strc_elab_graph.specs.Rates.{fires_by_rounds}
 use Rattle.strc_balance.specs.Balance.{count_at}
 use Rattle.strc_startup.specs.Rates.{rates_of}
-use Rattle.strc_schedule.specs.RoundRates.{is_copy}
-use Rattle.strc_schedule.specs.Schedules.{ScheduleParts, IsRunnable}
-use Rattle.strc_admissible.specs.Planned.{IsPlanned}
-use Rattle.strc_admissible.proofs.Rounds.{past_prework, balances}
+use Rattle.strc_sched_orders.specs.RoundRates.{is_copy}
+use Rattle.strc_sched_orders.specs.Schedules.{ScheduleParts, IsRunnable}
+use Rattle.strc_sched_laws.specs.Planned.{IsPlanned}
+use Rattle.strc_sched_laws.proofs.Rounds.{past_prework, balances}
 use Rattle.strc_fuse.specs.Fusion.{IsFusible}
 use Rattle.strc_fuse.specs.Units.{is_free, round_units, ArePlaced}
 use Rattle.strc_fuse.specs.FusedLaws.{PlannedAreFusible, FusedArePlanned}

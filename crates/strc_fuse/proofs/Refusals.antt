@@ -1,12 +1,12 @@
 -- Why a schedule isn't fused.
 use Rattle.std.proofs.Common.{subst, ℕ, List}
-use Rattle.strc_graph.specs.Graphs.{Graph}
-use Rattle.strc_schedule.specs.declared.unit as units
-use Rattle.strc_schedule.specs.Firings.{none_fired}
-use Rattle.strc_schedule.specs.Greedy as order
-use Rattle.strc_schedule.specs.Schedules.{ScheduleParts}
-use Rattle.strc_schedule.specs.Sizing.{PassesOn, round_rates_on}
-use Rattle.strc_dataflow.specs.FusedUnits.{AreFused}
+use Rattle.strc_elab_graph.specs.Graphs.{Graph}
+use Rattle.strc_sched_orders.specs.declared.unit as units
+use Rattle.strc_sched_orders.specs.Firings.{none_fired}
+use Rattle.strc_sched_orders.specs.Greedy as order
+use Rattle.strc_sched_orders.specs.Schedules.{ScheduleParts}
+use Rattle.strc_sched_orders.specs.Sizing.{PassesOn, round_rates_on}
+use Rattle.strc_elab_dataflow.specs.FusedUnits.{AreFused}
 use Rattle.strc_fuse.specs.Fusion.{FusedPass}
 use Rattle.strc_fuse.specs.Units.{is_free, round_units}
 use Rattle.strc_fuse.proofs.Counting.{firings_same}

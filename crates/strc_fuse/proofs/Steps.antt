@@ -7,10 +7,10 @@ use Rattle.std.specs.Int.{IsGcd}
 use Rattle.std.proofs.lemmas.Bool.{cases_lt}
 use Rattle.std.proofs.lemmas.Nat.Gcd.{same_from_IsGcd}
 use Rattle.std.proofs.Math.Nat.{mul-div_cancel_left}
-use Rattle.strc_dataflow.specs.Fused.{repeated}
-use Rattle.strc_dataflow.specs.FusedUnits.{RoundUnit, AreFree, Joins, IsFused, joined_unit}
+use Rattle.strc_elab_dataflow.specs.Fused.{repeated}
+use Rattle.strc_elab_dataflow.specs.FusedUnits.{RoundUnit, AreFree, Joins, IsFused, joined_unit}
 use Rattle.strc_fuse.specs.Steps.{AreShares, AreTooLong, GoesOn}
-use Rattle.strc_fuse.specs.declared.joining.Shares.{Shares}
+use Rattle.strc_fuse.specs.declared.unit_join.Shares.{Shares}
 
 cancel : (h x y : ℕ) → 0 < h → h * x ≡ h * y → x ≡ y
 cancel h x y some e =

@@ -1,12 +1,12 @@
 -- Planned schedules before fusion and after it.
 use Rattle.std.specs.Prelude.{◌≡◌, ℕ, false, All}
-use Rattle.strc_graph.specs.Graphs.{Graph}
+use Rattle.strc_elab_graph.specs.Graphs.{Graph}
 use Rattle.strc_balance.specs.Balance.{count_at}
 use Rattle.strc_startup.specs.Rates.{rates_of}
-use Rattle.strc_schedule.specs.RoundRates.{is_copy}
-use Rattle.strc_schedule.specs.Firings.{Firings}
-use Rattle.strc_schedule.specs.Schedules.{IsSchedule, ScheduleParts}
-use Rattle.strc_admissible.specs.Planned.{IsPlanned}
+use Rattle.strc_sched_orders.specs.RoundRates.{is_copy}
+use Rattle.strc_sched_orders.specs.Firings.{Firings}
+use Rattle.strc_sched_orders.specs.Schedules.{IsSchedule, ScheduleParts}
+use Rattle.strc_sched_laws.specs.Planned.{IsPlanned}
 use Rattle.strc_fuse.specs.Fusion.{IsFusion, FusedPass, IsFusible}
 use Rattle.strc_fuse.specs.Units.{is_free, round_units, ArePlaced}
 

@@ -1,21 +1,21 @@
 -- What fusion of a schedule's round comes to.
 use Rattle.std.specs.Prelude.{◌≡◌, ℕ, ◌≤◌, ℤ, Bool, List, All, length}
-use Rattle.strc_dataflow.specs.Flat as flat
-use Rattle.strc_dataflow.specs.Queues.{Fifo, fifo_go}
-use Rattle.strc_semantics.specs.declared.fault.Cause.{Cause}
-use Rattle.strc_semantics.specs.declared.word.Word.{Word}
-use Rattle.strc_graph.specs.Graphs.{Graph, NodeCode}
-use Rattle.strc_graph.specs.Meaning.{node_meaning}
+use Rattle.strc_elab_dataflow.specs.Flat as flat
+use Rattle.strc_elab_dataflow.specs.Queues.{Fifo, fifo_go}
+use Rattle.strc_work_meaning.specs.declared.fault.Cause.{Cause}
+use Rattle.strc_work_meaning.specs.declared.word.Word.{Word}
+use Rattle.strc_elab_graph.specs.Graphs.{Graph, NodeCode}
+use Rattle.strc_elab_graph.specs.Meaning.{node_meaning}
 use Rattle.strc_startup.specs.declared.channel_rates.ChannelRates.{ChannelRates}
-use Rattle.strc_schedule.specs.Buffers.{size_limit}
-use Rattle.strc_schedule.specs.Firings.{Firings, none_fired}
-use Rattle.strc_schedule.specs.Greedy as order
-use Rattle.strc_schedule.specs.Peaks.{AreRaised}
-use Rattle.strc_schedule.specs.Rounds.{IsPastPrework, RoundBalances}
-use Rattle.strc_schedule.specs.Schedules.{ScheduleParts, IsRunnable}
-use Rattle.strc_schedule.specs.Sizing.{IsCovered, round_rates_on, PassesOn}
-use Rattle.strc_dataflow.specs.FusedUnits.{RoundUnit, AreFused, firings_of}
-use Rattle.strc_dataflow.specs.Same.{gone, IsValid}
+use Rattle.strc_sched_orders.specs.Buffers.{size_limit}
+use Rattle.strc_sched_orders.specs.Firings.{Firings, none_fired}
+use Rattle.strc_sched_orders.specs.Greedy as order
+use Rattle.strc_sched_orders.specs.Peaks.{AreRaised}
+use Rattle.strc_sched_orders.specs.Rounds.{IsPastPrework, RoundBalances}
+use Rattle.strc_sched_orders.specs.Schedules.{ScheduleParts, IsRunnable}
+use Rattle.strc_sched_orders.specs.Sizing.{IsCovered, round_rates_on, PassesOn}
+use Rattle.strc_elab_dataflow.specs.FusedUnits.{RoundUnit, AreFused, firings_of}
+use Rattle.strc_elab_dataflow.specs.Same.{gone, IsValid}
 use Rattle.strc_fuse.specs.Units.{is_free, round_units, ArePlaced}
 
 -- the same start-up, and a round of fused units with lists of at most so many entries; the size of

@@ -1,20 +1,20 @@
 -- What fused rounds are worth, and which schedules can be fused.
 use Rattle.std.specs.Prelude.{◌≡◌, ℕ, ◌<◌, ◌≤◌, Bool, false, List, [], ◌∷◌, All, length}
-use Rattle.strc_graph.specs.Graphs.{Graph}
-use Rattle.strc_graph.specs.FlatGraphs.{IsProgram}
-use Rattle.strc_stream.specs.Instances.{Stream}
-use Rattle.strc_stream.specs.Types.{IsWellTyped}
-use Rattle.strc_stream.specs.Flattening.{tree_of, outer_loops}
+use Rattle.strc_elab_graph.specs.Graphs.{Graph}
+use Rattle.strc_elab_graph.specs.FlatGraphs.{IsProgram}
+use Rattle.strc_elab_stream.specs.Instances.{Stream}
+use Rattle.strc_elab_stream.specs.Types.{IsWellTyped}
+use Rattle.strc_elab_stream.specs.Flattening.{tree_of, outer_loops}
 use Rattle.strc_balance.specs.Balance.{count_at}
 use Rattle.strc_startup.specs.Rates.{rates_of}
 use Rattle.strc_startup.specs.declared.channel_rates.ChannelRates.{ChannelRates}
-use Rattle.strc_schedule.specs.Firings.{Firings}
-use Rattle.strc_schedule.specs.Greedy.{IsGreedyOrder}
-use Rattle.strc_schedule.specs.Order.{firing_count, IsOrder}
-use Rattle.strc_schedule.specs.Peaks.{HasNodes}
-use Rattle.strc_schedule.specs.Rounds.{IsPastPrework, RoundBalances}
-use Rattle.strc_schedule.specs.Schedules.{ScheduleParts, IsSchedule}
-use Rattle.strc_dataflow.specs.FusedUnits.{RoundUnit, AreFused, firings_of}
+use Rattle.strc_sched_orders.specs.Firings.{Firings}
+use Rattle.strc_sched_orders.specs.Greedy.{IsGreedyOrder}
+use Rattle.strc_sched_orders.specs.Order.{firing_count, IsOrder}
+use Rattle.strc_sched_orders.specs.Peaks.{HasNodes}
+use Rattle.strc_sched_orders.specs.Rounds.{IsPastPrework, RoundBalances}
+use Rattle.strc_sched_orders.specs.Schedules.{ScheduleParts, IsSchedule}
+use Rattle.strc_elab_dataflow.specs.FusedUnits.{RoundUnit, AreFused, firings_of}
 use Rattle.strc_fuse.specs.Fusion.{IsFusible}
 use Rattle.strc_fuse.specs.Units.{is_free, round_units, ArePlaced}
 

@@ -2,10 +2,10 @@
 -- gives their sum, and a writer.
 use Rattle.std.specs.Prelude.{◌≡◌, ℕ, true, List, [], ◌∷◌, map}
 use Rattle.strc_startup.specs.declared.channel_rates.ChannelRates.{ChannelRates}
-use Rattle.strc_schedule.specs.Buffers.{peak_fill}
-use Rattle.strc_schedule.specs.Firings.{none_fired}
-use Rattle.strc_dataflow.specs.FusedUnits.{RoundUnit, AreFused, firings_of}
-use Rattle.strc_dataflow.specs.Pieces.{unit_of}
+use Rattle.strc_sched_orders.specs.Buffers.{peak_fill}
+use Rattle.strc_sched_orders.specs.Firings.{none_fired}
+use Rattle.strc_elab_dataflow.specs.FusedUnits.{RoundUnit, AreFused, firings_of}
+use Rattle.strc_elab_dataflow.specs.Pieces.{unit_of}
 
 -- a channel whose target looks at no more than it pops
 abbrev pub channel : (source push target pop : ℕ) → ChannelRates

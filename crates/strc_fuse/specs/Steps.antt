@@ -2,8 +2,8 @@
 use Rattle.std.specs.Prelude.{◌≡◌, ℕ, ◌+◌, ◌*◌, ◌≤◌, ◌⊎◌, Bool, List, [], ◌∷◌, ◌++◌, length}
 use Rattle.std.specs.Prelude.{MatchBool}
 use Rattle.std.specs.Int.{IsGcd}
-use Rattle.strc_dataflow.specs.FusedUnits.{RoundUnit, AreFree, Joins, joined_unit}
-use Rattle.strc_fuse.specs.declared.joining.Shares.{Shares}
+use Rattle.strc_elab_dataflow.specs.FusedUnits.{RoundUnit, AreFree, Joins, joined_unit}
+use Rattle.strc_fuse.specs.declared.unit_join.Shares.{Shares}
 use Rattle.strc_fuse.specs.declared.units.LastUnit.{LastUnit}
 
 -- two units fire by turns so, in a list that isn't too long

@@ -2,13 +2,13 @@
 -- Messerschmitt 1987: a round's schedule).
 use Rattle.std.specs.Prelude.{◌≡◌, ℕ, ◌*◌, ◌<◌, Bool, true, false, ◌&&◌, if◌then◌else◌}
 use Rattle.std.specs.Prelude.{List, [], ◌∷◌, map, All, Option, Some, None, slice_get}
-use Rattle.strc_graph.specs.Graphs.{Graph, NodeCode}
-use Rattle.strc_graph.specs.Rates.{fires_by_rounds}
+use Rattle.strc_elab_graph.specs.Graphs.{Graph, NodeCode}
+use Rattle.strc_elab_graph.specs.Rates.{fires_by_rounds}
 use Rattle.strc_startup.specs.declared.channel_rates.ChannelRates.{ChannelRates}
-use Rattle.strc_schedule.specs.declared.unit as units
-use Rattle.strc_schedule.specs.Firings.{Firings}
-use Rattle.strc_schedule.specs.Order.{firing_count}
-use Rattle.strc_dataflow.specs.FusedUnits.{RoundUnit, AreFree, nodes_of}
+use Rattle.strc_sched_orders.specs.declared.unit as units
+use Rattle.strc_sched_orders.specs.Firings.{Firings}
+use Rattle.strc_sched_orders.specs.Order.{firing_count}
+use Rattle.strc_elab_dataflow.specs.FusedUnits.{RoundUnit, AreFree, nodes_of}
 
 -- units without where their lists lie in memory
 abbrev pub round_unit : units.Unit.Unit → RoundUnit

@@ -1,12 +1,12 @@
 // Which nodes may be fused.
 
 ghost use Rattle.std.specs.Prelude.{◌≡◌, ◌<◌, All, MatchBool, length};
-ghost use Rattle.strc_graph.specs.NodeView.{graph_view};
-ghost use Rattle.strc_dataflow.specs.FusedUnits.{AreFree};
+ghost use Rattle.strc_elab_graph.specs.NodeView.{graph_view};
+ghost use Rattle.strc_elab_dataflow.specs.FusedUnits.{AreFree};
 ghost use Rattle.strc_fuse.specs.Units.{is_free};
 
-use strc_graph::graph::Graph;
-use strc_graph::rates::fires_by_rounds;
+use strc_elab_graph::graph::Graph;
+use strc_elab_graph::rates::fires_by_rounds;
 
 /// Whether all nodes of a list may be fused.
 pub(crate) fn are_free(graph: &Graph, nodes: &[u32]) -> bool

@@ -4,16 +4,16 @@
 // The theorems to rely on: `fuse`: the units are exactly the fused ones, the buffers are those that
 // they need, and where the schedule could be run before, it can be run still; `fused_are_planned`:
 // a planned schedule's fused one is planned, with the same counts.
-// Stands on strc_dataflow, whose laws on fused units it applies, on strc_schedule, whose units and
-// sizes these are, on strc_admissible, which says what is planned, and on strc_stream, of whose
-// wires the graph's order is.
+// Stands on strc_elab_dataflow, whose laws on fused units it applies, on strc_sched_orders, whose
+// units and sizes these are, on strc_sched_laws, which says what is planned, and on
+// strc_elab_stream, of whose wires the graph's order is.
 #![tactic(auto)]
 
 pub mod error;
 mod freedom;
+pub mod fuse;
 pub mod fused_laws;
-pub mod fusing;
-mod joining;
 pub mod laws;
 mod lists;
+mod unit_join;
 mod units;

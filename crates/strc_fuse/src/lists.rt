@@ -1,12 +1,12 @@
 // Lists of nodes, a number of times.
 
 ghost use Rattle.std.specs.Prelude.{◌≡◌, ◌++◌, IfOk, OnOk};
-ghost use Rattle.strc_dataflow.specs.Fused.{repeated};
+ghost use Rattle.strc_elab_dataflow.specs.Fused.{repeated};
 ghost use Rattle.strc_fuse.specs.Units.{round_unit};
 
 use std::alloc::{AllocError, Global};
 use std::mem;
-use strc_schedule::unit::Unit;
+use strc_sched_orders::unit::Unit;
 
 /// Puts a list so many times in its place; one that stays as it is isn't copied.
 pub(crate) fn repeat(alloc: Global, nodes: &mut Vec<u32>, times: u32) -> Result<(), AllocError>

@@ -1,19 +1,19 @@
 // The units of a round, fused from left to right.
 
 ghost use Rattle.std.specs.Prelude.{◌≡◌, All, IfOk, IfSome, IfNone, OnOk, true, length};
-ghost use Rattle.strc_graph.specs.NodeView.{graph_view};
-ghost use Rattle.strc_schedule.specs.Peaks.{HasNodes};
-ghost use Rattle.strc_dataflow.specs.FusedUnits.{AreFused, IsFused, joined_unit};
+ghost use Rattle.strc_elab_graph.specs.NodeView.{graph_view};
+ghost use Rattle.strc_sched_orders.specs.Peaks.{HasNodes};
+ghost use Rattle.strc_elab_dataflow.specs.FusedUnits.{AreFused, IsFused, joined_unit};
 ghost use Rattle.strc_fuse.specs.Steps.{AreShares, AreTooLong, IsMarked, GoesOn};
 ghost use Rattle.strc_fuse.specs.Units.{is_free, round_unit, round_units};
 
 use crate::freedom::are_free;
-use crate::joining::{Shares, joint};
 use crate::lists::{append, copy_of, repeat};
+use crate::unit_join::{Shares, joint};
 use std::alloc::{AllocError, Global};
 use std::mem;
-use strc_graph::graph::Graph;
-use strc_schedule::unit::Unit;
+use strc_elab_graph::graph::Graph;
+use strc_sched_orders::unit::Unit;
 
 /// The last of the units so far, to which more may be joined, and whether all its nodes may be
 /// fused.

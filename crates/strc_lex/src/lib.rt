@@ -3,7 +3,7 @@
 // list.
 // The theorems to rely on: `lex` answers Ok exactly with the tokens of the text; `read_text` reads
 // no more of it than its length can be told by.
-// Stands on strc_base, whose names and strings tokens carry.
+// Stands on strc_lex_names, whose names and strings tokens carry.
 #![tactic(auto)]
 
 mod characters;
@@ -15,3 +15,5 @@ pub mod punctuation;
 mod scan;
 pub mod token;
 mod trivia;
+
+pub use strc_lex_names::{memory, name, place};

@@ -1,8 +1,8 @@
 // What a token is: a name, a number, a keyword, a punctuation mark or a string, and its place in
 // the text.
 
-pub use strc_base::name::{Name, StringLiteral};
-pub use strc_base::place::Span;
+pub use strc_lex_names::name::{Name, StringLiteral};
+pub use strc_lex_names::place::Span;
 
 /// A token and where it is in the text.
 pub struct Token {

@@ -3,12 +3,12 @@ use Rattle.std.proofs.Common.{◌≡◌, ℕ, List, [], ◌∷◌, ◌++◌, map
 use Rattle.std.proofs.lemmas.List.{map_push}
 use Rattle.std.specs.Global.{Vec}
 use Rattle.strc_lex.specs.declared.token.TokenKind.{TokenKind}
-use Rattle.strc_grammar.specs.declared.error.ReadError.{ReadError}
-use Rattle.strc_grammar.specs.Grammar.{kinds}
-use Rattle.strc_grammar.specs.Reading.{Fails, Gives, Tall, one_taller}
-use Rattle.strc_grammar.proofs.Repeated.{Fails-then}
-use Rattle.strc_grammar.specs.declared.parsed.Parsed.{Parsed}
-use Rattle.strc_grammar.specs.Seen.{parsed}
+use Rattle.strc_parse_grammar.specs.declared.error.ReadError.{ReadError}
+use Rattle.strc_parse_grammar.specs.Grammar.{kinds}
+use Rattle.strc_parse_grammar.specs.Reading.{Fails, Gives, Tall, one_taller}
+use Rattle.strc_parse_grammar.proofs.Repeated.{Fails-then}
+use Rattle.strc_parse_grammar.specs.declared.rule_result.Parsed.{Parsed}
+use Rattle.strc_parse_grammar.specs.Seen.{parsed}
 use Rattle.strc_parse.specs.Kept.{IsGrown}
 
 module _ {T B : Type 0} (view : T → B) (reader : List TokenKind → Tall B)

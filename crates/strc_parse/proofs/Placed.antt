@@ -6,64 +6,68 @@ use Rattle.std.proofs.Common.{inl, inr, arith}
 use Rattle.std.specs.Option.{option_map}
 use Rattle.std.specs.Global.{Vec}
 use mathlib.Core.Former.{Count}
-use Rattle.strc_base.specs.declared.name.Name.{Name}
-use Rattle.strc_base.specs.declared.place.Span.{Span}
+use Rattle.strc_lex_names.specs.declared.name.Name.{Name}
+use Rattle.strc_lex_names.specs.declared.place.Span.{Span}
 use Rattle.strc_lex.specs.declared.token.Token.{Token}
 use Rattle.strc_lex.specs.declared.token.TokenKind.{TokenKind}
 use Rattle.strc_lex.specs.declared.token.TokenKind.TheVariants as token
 use Rattle.strc_lex.specs.declared.token.Keyword.TheVariants as keyword
 use Rattle.strc_lex.specs.declared.token.Punctuation.{Punctuation}
 use Rattle.strc_lex.specs.declared.token.Punctuation.TheVariants as punctuation
-use Rattle.strc_syntax.specs.declared.tree.Expr.{Expr}
-use Rattle.strc_syntax.specs.declared.tree.Stmt.{Stmt, Block, Row_of-Stmt, end_of-Stmt}
-use Rattle.strc_syntax.specs.declared.tree.Stmt.{more_of-Stmt}
-use Rattle.strc_syntax.specs.declared.tree.Stmt.{Block', items-the_row-Stmt}
-use Rattle.strc_syntax.specs.declared.tree.Stmt.{items_hidden-the_row-Stmt-1}
-use Rattle.strc_syntax.specs.declared.tree.Stmt.TheVariants as stmt
-use Rattle.strc_syntax.specs.declared.tree.Child.{Child, Row_of-Member, end_of-Member}
-use Rattle.strc_syntax.specs.declared.tree.Child.{more_of-Member, items-the_row-Member}
-use Rattle.strc_syntax.specs.declared.tree.Child.{items_hidden-the_row-Member-0}
-use Rattle.strc_syntax.specs.declared.tree.Child.TheVariants as child
-use Rattle.strc_syntax.specs.declared.tree.CompositeKind.{CompositeKind}
-use Rattle.strc_syntax.specs.declared.tree.Decl.{Decl}
-use Rattle.strc_syntax.specs.declared.tree.HelperType.{HelperType}
-use Rattle.strc_syntax.specs.declared.tree.Member.{Member}
-use Rattle.strc_syntax.specs.declared.tree.Member.TheVariants as member
-use Rattle.strc_syntax.specs.declared.tree.RateTree.{RateTree}
-use Rattle.strc_syntax.specs.declared.tree.StreamType.{StreamType}
-use Rattle.strc_syntax.specs.declared.tree.Variables.{Variables}
-use Rattle.strc_syntax.specs.Tree.{row}
-use Rattle.strc_syntax.specs.View.{rate_view, type_view, variable_view}
-use Rattle.strc_syntax.proofs.Views.{row_of_views}
-use Rattle.strc_grammar.specs.Grammar.{block_spelled, rate_spelled}
-use Rattle.strc_grammar.specs.Reading.{declared}
-use Rattle.strc_grammar.specs.Streams.{rate_kind, rate_of}
-use Rattle.strc_syntax.specs.Made.{IsForOf, IsIfElseOf, IsIfOf, IsWhileOf}
-use Rattle.strc_syntax.specs.Tree as tree
-use Rattle.strc_syntax.specs.View.{stmt_view, row_view, block_view, IsPlacedAt}
-use Rattle.strc_syntax.specs.View.{declaration_view, member_view, members_view}
-use Rattle.strc_grammar.specs.Grammar.{declaration_spelled, each_spelled, kinds, member_spelled}
-use Rattle.strc_grammar.specs.Grammar.{members_spelled, row_spelled, stmt_spelled}
-use Rattle.strc_grammar.proofs.Soundness.{each_spelled-push}
+use Rattle.strc_parse_tree.specs.declared.tree.Expr.{Expr}
+use Rattle.strc_parse_tree.specs.declared.tree.Stmt.{Stmt, Block, Row_of-Stmt, end_of-Stmt}
+use Rattle.strc_parse_tree.specs.declared.tree.Stmt.{more_of-Stmt}
+use Rattle.strc_parse_tree.specs.declared.tree.Stmt.{Block', items-the_row-Stmt}
+use Rattle.strc_parse_tree.specs.declared.tree.Stmt.{items_hidden-the_row-Stmt-1}
+use Rattle.strc_parse_tree.specs.declared.tree.Stmt.TheVariants as stmt
+use Rattle.strc_parse_tree.specs.declared.tree.Child.{Child, Row_of-Member, end_of-Member}
+use Rattle.strc_parse_tree.specs.declared.tree.Child.{more_of-Member, items-the_row-Member}
+use Rattle.strc_parse_tree.specs.declared.tree.Child.{items_hidden-the_row-Member-0}
+use Rattle.strc_parse_tree.specs.declared.tree.Child.TheVariants as child
+use Rattle.strc_parse_tree.specs.declared.tree.CompositeKind.{CompositeKind}
+use Rattle.strc_parse_tree.specs.declared.tree.Decl.{Decl}
+use Rattle.strc_parse_tree.specs.declared.tree.HelperType.{HelperType}
+use Rattle.strc_parse_tree.specs.declared.tree.Member.{Member}
+use Rattle.strc_parse_tree.specs.declared.tree.Member.TheVariants as member
+use Rattle.strc_parse_tree.specs.declared.tree.RateTree.{RateTree}
+use Rattle.strc_parse_tree.specs.declared.tree.StreamType.{StreamType}
+use Rattle.strc_parse_tree.specs.declared.tree.Variables.{Variables}
+use Rattle.strc_parse_tree.specs.Tree.{row}
+use Rattle.strc_parse_tree.specs.View.{rate_view, type_view, variable_view}
+use Rattle.strc_parse_tree.proofs.Views.{row_of_views}
+use Rattle.strc_parse_grammar.specs.Grammar.{block_spelled, rate_spelled}
+use Rattle.strc_parse_grammar.specs.Reading.{declared}
+use Rattle.strc_parse_grammar.specs.Streams.{rate_kind, rate_of}
+use Rattle.strc_parse_tree.specs.Made.{IsForOf, IsIfElseOf, IsIfOf, IsWhileOf}
+use Rattle.strc_parse_tree.specs.Tree as tree
+use Rattle.strc_parse_tree.specs.View.{stmt_view, row_view, block_view, IsPlacedAt}
+use Rattle.strc_parse_tree.specs.View.{declaration_view, member_view, members_view}
+use Rattle.strc_parse_grammar.specs.Grammar.{declaration_spelled, each_spelled, kinds}
+use Rattle.strc_parse_grammar.specs.Grammar.{member_spelled}
+use Rattle.strc_parse_grammar.specs.Grammar.{members_spelled, row_spelled, stmt_spelled}
+use Rattle.strc_parse_grammar.proofs.Soundness.{each_spelled-push}
 use Rattle.std.proofs.lemmas.List.{length-map, map_push}
 use Rattle.std.specs.Borrow.{Bor}
-use Rattle.strc_grammar.specs.Seen.{declared_view, parsed}
-use Rattle.strc_grammar.specs.Streams.{statement}
-use Rattle.strc_grammar.specs.Streams as streams
-use Rattle.strc_grammar.specs.declared.parsed.Parsed.{Parsed}
-use Rattle.strc_grammar.specs.Grammar.{IsFirst, optional_spelled, part_spelled}
-use Rattle.strc_syntax.specs.View.{expr_view}
-use Rattle.strc_grammar.specs.Reading.{Gives, after_first, ended, expect, is_keyword, optional}
-use Rattle.strc_grammar.specs.Reading.{tail}
-use Rattle.strc_grammar.specs.declared.error.ReadError.{ReadError}
-use Rattle.strc_grammar.proofs.SimpleSoundness.{EndedRead, after_first_is_spelled, ended_soundness}
-use Rattle.strc_grammar.proofs.SimpleSoundness.{step_is_spelled}
-use Rattle.strc_grammar.proofs.MemberSoundness.{BlockRead, braced_soundness, member_is_spelled}
-use Rattle.strc_grammar.proofs.MemberSoundness.{rate_is_spelled}
-use Rattle.strc_grammar.proofs.SimpleSoundness.{DeclaredRead, declared_soundness}
-use Rattle.strc_grammar.proofs.Soundness.{Sound-ok, expect_cases}
-use Rattle.strc_grammar.proofs.StatementSoundness.{StmtRead, keyword_is}
-use Rattle.strc_grammar.proofs.TreeSoundness.{statement_soundness}
+use Rattle.strc_parse_grammar.specs.Seen.{declared_view, parsed}
+use Rattle.strc_parse_grammar.specs.Streams.{statement}
+use Rattle.strc_parse_grammar.specs.Streams as streams
+use Rattle.strc_parse_grammar.specs.declared.rule_result.Parsed.{Parsed}
+use Rattle.strc_parse_grammar.specs.Grammar.{IsFirst, optional_spelled, part_spelled}
+use Rattle.strc_parse_tree.specs.View.{expr_view}
+use Rattle.strc_parse_grammar.specs.Reading.{Gives, after_first, ended, expect, is_keyword}
+use Rattle.strc_parse_grammar.specs.Reading.{optional}
+use Rattle.strc_parse_grammar.specs.Reading.{tail}
+use Rattle.strc_parse_grammar.specs.declared.error.ReadError.{ReadError}
+use Rattle.strc_parse_grammar.proofs.SimpleSoundness.{EndedRead, after_first_is_spelled}
+use Rattle.strc_parse_grammar.proofs.SimpleSoundness.{ended_soundness}
+use Rattle.strc_parse_grammar.proofs.SimpleSoundness.{step_is_spelled}
+use Rattle.strc_parse_grammar.proofs.MemberSoundness.{BlockRead, braced_soundness}
+use Rattle.strc_parse_grammar.proofs.MemberSoundness.{member_is_spelled}
+use Rattle.strc_parse_grammar.proofs.MemberSoundness.{rate_is_spelled}
+use Rattle.strc_parse_grammar.proofs.SimpleSoundness.{DeclaredRead, declared_soundness}
+use Rattle.strc_parse_grammar.proofs.Soundness.{Sound-ok, expect_cases}
+use Rattle.strc_parse_grammar.proofs.StatementSoundness.{StmtRead, keyword_is}
+use Rattle.strc_parse_grammar.proofs.TreeSoundness.{statement_soundness}
 use Rattle.strc_parse.specs.Placed.{IsAt, IsBlockPlaced, IsPlaced, IsPlacedWithin, IsRowPlaced}
 use Rattle.strc_parse.specs.Placed.{spelled_place, AreMembersPlaced, ArePartsPlaced, IsFrom}
 use Rattle.strc_parse.specs.Placed.{IsPlain, IsReadAt, IsStepPlaced, place_between}

@@ -3,19 +3,19 @@ use Rattle.std.proofs.Common.{◌≡◌, ℕ, ◌<◌, ◌≤◌, Bool, List, []
 use Rattle.std.proofs.Common.{sym, ap, inl, inr, arith}
 use Rattle.std.proofs.lemmas.Bool.{cases_Bool}
 use Rattle.strc_lex.specs.declared.token.TokenKind.{TokenKind}
-use Rattle.strc_grammar.specs.Grammar.{lowest_precedence}
-use Rattle.strc_grammar.specs.Reading.{tail}
-use Rattle.strc_grammar.proofs.Loops.{expression_within}
+use Rattle.strc_parse_grammar.specs.Grammar.{lowest_precedence}
+use Rattle.strc_parse_grammar.specs.Reading.{tail}
+use Rattle.strc_parse_grammar.proofs.Loops.{expression_within}
 use Rattle.std.specs.Prelude.{◌||◌}
 use Rattle.std.specs.List.{list_any}
 use denote.Enum.Bare.{sameb}
-use Rattle.strc_syntax.specs.contracts.tree.RateKind.{the_type as rate_type}
-use Rattle.strc_syntax.specs.declared.tree.RateKind.{RateKind}
-use Rattle.strc_syntax.specs.declared.tree.RateTree.{RateTree}
-use Rattle.strc_syntax.specs.Tree as tree
+use Rattle.strc_parse_tree.specs.contracts.tree.RateKind.{the_type as rate_type}
+use Rattle.strc_parse_tree.specs.declared.tree.RateKind.{RateKind}
+use Rattle.strc_parse_tree.specs.declared.tree.RateTree.{RateTree}
+use Rattle.strc_parse_tree.specs.Tree as tree
 use Rattle.strc_parse.specs.Seen.{seen_rate}
-use Rattle.strc_syntax.specs.View.{rate_view}
-use Rattle.strc_grammar.specs.Streams.{has_rate, rate_kind, rate_of}
+use Rattle.strc_parse_tree.specs.View.{rate_view}
+use Rattle.strc_parse_grammar.specs.Streams.{has_rate, rate_kind, rate_of}
 
 any_view : (kind : RateKind) (rates : List RateTree)
     → list_any (λ (r : RateTree). sameb rate_type r.kind kind) rates

@@ -2,8 +2,8 @@
 use Rattle.std.proofs.Common.{◌≡◌, ℕ, List, ap, ◌∙◌, sym, subst, arith}
 use Rattle.strc_lex.specs.declared.token.Token.{Token}
 use Rattle.strc_lex.proofs.Lexing.{lexes_only, stuck_lexes}
-use Rattle.strc_grammar.specs.Grammar.{Parses, kinds}
-use Rattle.strc_grammar.proofs.Exact.{unambiguous}
+use Rattle.strc_parse_grammar.specs.Grammar.{Parses, kinds}
+use Rattle.strc_parse_grammar.proofs.Exact.{unambiguous}
 use Rattle.strc_parse.specs.Texts.{HasTokens, SpellsOneProgram, SpelledTextsAreReadable}
 
 same_tokens : (text : List ℕ) (one other : List Token) → HasTokens text one → HasTokens text other

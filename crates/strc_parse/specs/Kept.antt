@@ -5,11 +5,11 @@ use Rattle.std.specs.Borrow.{Bor}
 use Rattle.std.specs.declared.alloc.AllocError.{AllocError}
 use Rattle.strc_lex.specs.declared.token.Token.{Token}
 use Rattle.strc_lex.specs.declared.token.Punctuation.{Punctuation}
-use Rattle.strc_grammar.specs.declared.error.ReadError.{ReadError}
-use Rattle.strc_grammar.specs.declared.error.ReadError.TheVariants as errors
-use Rattle.strc_grammar.specs.Grammar.{kinds}
-use Rattle.strc_grammar.specs.Reading.{Fails, expect, raised}
-use Rattle.strc_grammar.specs.declared.parsed.Parsed.{Parsed}
+use Rattle.strc_parse_grammar.specs.declared.error.ReadError.{ReadError}
+use Rattle.strc_parse_grammar.specs.declared.error.ReadError.TheVariants as errors
+use Rattle.strc_parse_grammar.specs.Grammar.{kinds}
+use Rattle.strc_parse_grammar.specs.Reading.{Fails, expect, raised}
+use Rattle.strc_parse_grammar.specs.declared.rule_result.Parsed.{Parsed}
 
 -- the part with this height and what was read next, with the height of the higher
 abbrev pub IsBoth : {A B : Type 0} → A → ℕ → Result (Parsed B) ReadError

@@ -1,9 +1,9 @@
 -- What an arm of a choice reads that is a rule of its own in the code.
 use Rattle.std.specs.Prelude.{ℕ, List, Ok}
 use Rattle.strc_lex.specs.declared.token.TokenKind.{TokenKind}
-use Rattle.strc_syntax.specs.Tree as tree
-use Rattle.strc_grammar.specs.Reading.{◌>>=◌, Tall}
-use Rattle.strc_grammar.specs.Streams.{Inner, phase}
+use Rattle.strc_parse_tree.specs.Tree as tree
+use Rattle.strc_parse_grammar.specs.Reading.{◌>>=◌, Tall}
+use Rattle.strc_parse_grammar.specs.Streams.{Inner, phase}
 
 abbrev pub prework : ℕ → Inner → List TokenKind → Tall tree.Member
 prework limit inner tokens =

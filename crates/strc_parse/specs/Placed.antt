@@ -4,38 +4,39 @@ use Rattle.std.specs.Prelude.{◌≡◌, ℕ, ◌-◌, List, [], ◌∷◌, leng
 use Rattle.std.specs.Option.{option_map}
 use Rattle.std.specs.Borrow.{Bor}
 use Rattle.std.specs.Global.{Vec}
-use Rattle.strc_base.specs.declared.place.Span.{Span}
+use Rattle.strc_lex_names.specs.declared.place.Span.{Span}
 use Rattle.strc_lex.specs.declared.token.Token.{Token}
 use Rattle.strc_lex.specs.declared.token.TokenKind.{TokenKind}
 use Rattle.strc_lex.specs.declared.token.TokenKind.TheVariants as token
 use Rattle.strc_lex.specs.declared.token.Keyword.TheVariants as keyword
 use Rattle.strc_lex.specs.declared.token.Punctuation.TheVariants as punctuation
-use Rattle.strc_syntax.specs.declared.tree.Child.{Child, Row_of-Member, end_of-Member}
-use Rattle.strc_syntax.specs.declared.tree.Child.{more_of-Member}
-use Rattle.strc_syntax.specs.declared.tree.Child.TheVariants as child
-use Rattle.strc_syntax.specs.declared.tree.Composition.{Composition}
-use Rattle.strc_syntax.specs.declared.tree.Composition.TheVariants as composition
-use Rattle.strc_syntax.specs.declared.tree.Decl.{Decl}
-use Rattle.strc_syntax.specs.declared.tree.Expr.{Expr}
-use Rattle.strc_syntax.specs.declared.tree.Member.{Member}
-use Rattle.strc_syntax.specs.declared.tree.Member.TheVariants as member
-use Rattle.strc_syntax.specs.declared.tree.Program.{Program}
-use Rattle.strc_syntax.specs.declared.tree.RateTree.{RateTree}
-use Rattle.strc_syntax.specs.declared.tree.Stmt.{Stmt, Row_of-Stmt, end_of-Stmt, more_of-Stmt}
-use Rattle.strc_syntax.specs.declared.tree.Stmt.TheVariants as stmt
-use Rattle.strc_syntax.specs.declared.tree.StreamTree.{StreamTree}
-use Rattle.strc_syntax.specs.declared.tree.StreamTree.TheVariants as stream
-use Rattle.strc_syntax.specs.declared.tree.Variables.{Variables}
-use Rattle.strc_syntax.specs.Tree.{row}
-use Rattle.strc_syntax.specs.View.{rate_view, type_view, variable_view}
-use Rattle.strc_syntax.specs.View.{block_view, declaration_view, expr_view, member_view}
-use Rattle.strc_syntax.specs.View.{members_view, row_view, stmt_view, IsPlacedAt}
-use Rattle.strc_grammar.specs.Grammar.{declaration_spelled, each_spelled, kinds, member_spelled}
-use Rattle.strc_grammar.specs.Grammar.{members_spelled, optional_spelled, part_spelled}
-use Rattle.strc_grammar.specs.Grammar.{block_spelled, declared_spelled, rate_spelled}
-use Rattle.strc_grammar.specs.Grammar.{row_spelled, stmt_spelled}
-use Rattle.strc_grammar.specs.Places.{before, span_of}
-use Rattle.strc_grammar.specs.declared.parsed.Parsed.{Parsed}
+use Rattle.strc_parse_tree.specs.declared.tree.Child.{Child, Row_of-Member, end_of-Member}
+use Rattle.strc_parse_tree.specs.declared.tree.Child.{more_of-Member}
+use Rattle.strc_parse_tree.specs.declared.tree.Child.TheVariants as child
+use Rattle.strc_parse_tree.specs.declared.tree.Composition.{Composition}
+use Rattle.strc_parse_tree.specs.declared.tree.Composition.TheVariants as composition
+use Rattle.strc_parse_tree.specs.declared.tree.Decl.{Decl}
+use Rattle.strc_parse_tree.specs.declared.tree.Expr.{Expr}
+use Rattle.strc_parse_tree.specs.declared.tree.Member.{Member}
+use Rattle.strc_parse_tree.specs.declared.tree.Member.TheVariants as member
+use Rattle.strc_parse_tree.specs.declared.tree.Program.{Program}
+use Rattle.strc_parse_tree.specs.declared.tree.RateTree.{RateTree}
+use Rattle.strc_parse_tree.specs.declared.tree.Stmt.{Stmt, Row_of-Stmt, end_of-Stmt, more_of-Stmt}
+use Rattle.strc_parse_tree.specs.declared.tree.Stmt.TheVariants as stmt
+use Rattle.strc_parse_tree.specs.declared.tree.StreamTree.{StreamTree}
+use Rattle.strc_parse_tree.specs.declared.tree.StreamTree.TheVariants as stream
+use Rattle.strc_parse_tree.specs.declared.tree.Variables.{Variables}
+use Rattle.strc_parse_tree.specs.Tree.{row}
+use Rattle.strc_parse_tree.specs.View.{rate_view, type_view, variable_view}
+use Rattle.strc_parse_tree.specs.View.{block_view, declaration_view, expr_view, member_view}
+use Rattle.strc_parse_tree.specs.View.{members_view, row_view, stmt_view, IsPlacedAt}
+use Rattle.strc_parse_grammar.specs.Grammar.{declaration_spelled, each_spelled, kinds}
+use Rattle.strc_parse_grammar.specs.Grammar.{member_spelled}
+use Rattle.strc_parse_grammar.specs.Grammar.{members_spelled, optional_spelled, part_spelled}
+use Rattle.strc_parse_grammar.specs.Grammar.{block_spelled, declared_spelled, rate_spelled}
+use Rattle.strc_parse_grammar.specs.Grammar.{row_spelled, stmt_spelled}
+use Rattle.strc_parse_grammar.specs.Places.{before, span_of}
+use Rattle.strc_parse_grammar.specs.declared.rule_result.Parsed.{Parsed}
 
 -- a statement with this place; an empty one has none
 abbrev pub IsAt : Span → Stmt → (placed : Stmt) → Type 0

@@ -3,14 +3,14 @@ use Rattle.std.specs.Prelude.{◌≡◌, ℕ, List, Result, IfOk}
 use Rattle.std.specs.declared.alloc.Global.{Global}
 use Rattle.std.specs.Borrow.{Bor}
 use Rattle.strc_lex.specs.declared.token.Token.{Token}
-use Rattle.strc_syntax.specs.declared.tree.Stmt.{Stmt}
-use Rattle.strc_grammar.specs.declared.error.ReadError.{ReadError}
-use Rattle.strc_grammar.specs.Grammar.{kinds}
-use Rattle.strc_syntax.specs.View.{stmt_view}
-use Rattle.strc_grammar.specs.declared.parsed.Parsed.{Parsed}
-use Rattle.strc_grammar.specs.Seen.{parsed}
-use Rattle.strc_grammar.specs.Reading.{Gives}
-use Rattle.strc_grammar.specs.Streams.{statement}
+use Rattle.strc_parse_tree.specs.declared.tree.Stmt.{Stmt}
+use Rattle.strc_parse_grammar.specs.declared.error.ReadError.{ReadError}
+use Rattle.strc_parse_grammar.specs.Grammar.{kinds}
+use Rattle.strc_parse_tree.specs.View.{stmt_view}
+use Rattle.strc_parse_grammar.specs.declared.rule_result.Parsed.{Parsed}
+use Rattle.strc_parse_grammar.specs.Seen.{parsed}
+use Rattle.strc_parse_grammar.specs.Reading.{Gives}
+use Rattle.strc_parse_grammar.specs.Streams.{statement}
 use Rattle.strc_parse.specs.Placed.{IsPlacedWithin}
 
 pub record ReadsStatements (all : List Token) (depth : ℕ)

@@ -6,17 +6,17 @@ use Rattle.std.specs.Borrow.{Bor}
 use Rattle.std.specs.Global.{Vec}
 use Rattle.strc_lex.specs.declared.token.Token.{Token}
 use Rattle.strc_lex.specs.declared.token.TokenKind.{TokenKind}
-use Rattle.strc_syntax.specs.declared.tree.Expr.{Expr}
-use Rattle.strc_syntax.specs.declared.tree.Stmt.{Stmt}
+use Rattle.strc_parse_tree.specs.declared.tree.Expr.{Expr}
+use Rattle.strc_parse_tree.specs.declared.tree.Stmt.{Stmt}
 use denote.Enum.Bare.{sameb}
-use Rattle.strc_syntax.specs.declared.tree.RateKind.{RateKind}
-use Rattle.strc_syntax.specs.contracts.tree.RateKind.{the_type as rate_type}
-use Rattle.strc_syntax.specs.declared.tree.RateTree.{RateTree}
-use Rattle.strc_syntax.specs.declared.tree.Decl.{Decl}
-use Rattle.strc_syntax.specs.Tree as tree
-use Rattle.strc_syntax.specs.Tree.{row}
-use Rattle.strc_syntax.specs.View.{expr_view, stmt_view, rate_view, declaration_view}
-use Rattle.strc_grammar.specs.Grammar.{kinds}
+use Rattle.strc_parse_tree.specs.declared.tree.RateKind.{RateKind}
+use Rattle.strc_parse_tree.specs.contracts.tree.RateKind.{the_type as rate_type}
+use Rattle.strc_parse_tree.specs.declared.tree.RateTree.{RateTree}
+use Rattle.strc_parse_tree.specs.declared.tree.Decl.{Decl}
+use Rattle.strc_parse_tree.specs.Tree as tree
+use Rattle.strc_parse_tree.specs.Tree.{row}
+use Rattle.strc_parse_tree.specs.View.{expr_view, stmt_view, rate_view, declaration_view}
+use Rattle.strc_parse_grammar.specs.Grammar.{kinds}
 
 -- what is between the brackets of a `for`
 abbrev pub heading_view : Stmt × (Option Expr × Stmt)

@@ -2,10 +2,10 @@
 use Rattle.std.specs.Prelude.{◌≡◌, ℕ, ◌<◌, ◌≤◌, List, length}
 use Rattle.strc_lex.specs.Text.{Lexes, StopsAt, text_limit}
 use Rattle.strc_lex.specs.declared.token.Token.{Token}
-use Rattle.strc_syntax.specs.Tree.{Declaration}
-use Rattle.strc_grammar.specs.Grammar.{Parses, Refuses, kinds}
-use Rattle.strc_grammar.specs.declared.error.ParseError.{ParseError}
-use Rattle.strc_grammar.specs.declared.error.ParseError.TheVariants as refused
+use Rattle.strc_parse_tree.specs.Tree.{Declaration}
+use Rattle.strc_parse_grammar.specs.Grammar.{Parses, Refuses, kinds}
+use Rattle.strc_parse_grammar.specs.declared.error.ParseError.{ParseError}
+use Rattle.strc_parse_grammar.specs.declared.error.ParseError.TheVariants as refused
 
 -- the text isn't too long, and these are its tokens
 pub record HasTokens (text : List ℕ) (tokens : List Token) : Type 0 where

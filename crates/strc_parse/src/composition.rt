@@ -4,31 +4,31 @@
 ghost use Rattle.std.specs.Prelude.{◌≡◌, ◌-◌, ◌<◌, List, IfOk};
 ghost use Rattle.strc_lex.specs.declared.token.Token.{Token};
 ghost use Rattle.strc_lex.specs.declared.token.TokenKind.{TokenKind};
-ghost use Rattle.strc_grammar.specs.Grammar.{kinds};
-ghost use Rattle.strc_syntax.specs.View.{weights_view, stmt_view, child_view};
-ghost use Rattle.strc_syntax.specs.View.{splitter_view, composition_view};
-ghost use Rattle.strc_grammar.specs.Seen.{parsed};
-ghost use Rattle.strc_grammar.specs.Streams as spec;
-ghost use Rattle.strc_grammar.specs.Reading.{Gives};
+ghost use Rattle.strc_parse_grammar.specs.Grammar.{kinds};
+ghost use Rattle.strc_parse_tree.specs.View.{weights_view, stmt_view, child_view};
+ghost use Rattle.strc_parse_tree.specs.View.{splitter_view, composition_view};
+ghost use Rattle.strc_parse_grammar.specs.Seen.{parsed};
+ghost use Rattle.strc_parse_grammar.specs.Streams as spec;
+ghost use Rattle.strc_parse_grammar.specs.Reading.{Gives};
 ghost use Rattle.strc_parse.specs.Placed.{IsChildPlaced, IsPartPlaced, IsPlacedWithin};
 ghost use Rattle.strc_parse.specs.Readers.{ReadsStatements};
 
 use crate::control::StatementRules;
 use crate::kept::{leaf_of, node_of, with_mark, with_node_height};
 use std::alloc::Global;
-use strc_base::name::Name;
-use strc_grammar::ReadError;
-use strc_grammar::argument::{arguments, empty_brackets};
-use strc_grammar::expression::closed;
-use strc_grammar::lookahead::{expect, expect_keyword, is_keyword, peek, tail, unexpected};
-use strc_grammar::parsed::Parsed;
-use strc_grammar::stream_type::{composite_kind, file, int_items, stream_type};
 use strc_lex::token::{Keyword, Punctuation, Token, TokenKind};
-use strc_syntax::node::{composite_of, filter_of};
-use strc_syntax::tree::{Child, Composition, Expr, Role, Splitter, Stmt, StreamType};
+use strc_lex_names::name::Name;
+use strc_parse_grammar::ReadError;
+use strc_parse_grammar::argument::{arguments, empty_brackets};
+use strc_parse_grammar::expression::closed;
+use strc_parse_grammar::lookahead::{expect, expect_keyword, is_keyword, peek, tail, unexpected};
+use strc_parse_grammar::rule_result::Parsed;
+use strc_parse_grammar::stream_type::{composite_kind, file, int_items, stream_type};
+use strc_parse_tree::node::{composite_of, filter_of};
+use strc_parse_tree::tree::{Child, Composition, Expr, Role, Splitter, Stmt, StreamType};
 
 /// `A(1, 2);`: after the name. The height is the highest argument's, or 0.
-#[tactic(auto, unfolding(strc_grammar::specs::Streams::named_child))]
+#[tactic(auto, unfolding(strc_parse_grammar::specs::Streams::named_child))]
 fn named_child<'t>(
     alloc: Global,
     limit: usize,
@@ -45,7 +45,7 @@ fn named_child<'t>(
 }
 
 /// `<int>();`: after the keyword.
-#[tactic(auto, unfolding(strc_grammar::specs::Streams::identity))]
+#[tactic(auto, unfolding(strc_parse_grammar::specs::Streams::identity))]
 fn identity(tokens: &[Token]) -> Result<Parsed<'_, Child>, ReadError>
     ensures gives { Gives (parsed child_view) result (spec.identity (kinds tokens.now)) }
     ensures plain { IfOk result (λ r. (all : List Token) (rest : List TokenKind)
@@ -57,7 +57,7 @@ fn identity(tokens: &[Token]) -> Result<Parsed<'_, Child>, ReadError>
 }
 
 /// `roundrobin(1, 2)`, and the height of the highest weight or 0.
-#[tactic(auto, unfolding(strc_grammar::specs::Streams::weights))]
+#[tactic(auto, unfolding(strc_parse_grammar::specs::Streams::weights))]
 fn weights(
     alloc: Global,
     limit: usize,
@@ -70,7 +70,7 @@ fn weights(
 }
 
 /// How items are split, and the height of the highest weight or 0.
-#[tactic(auto, unfolding(strc_grammar::specs::Streams::splitter))]
+#[tactic(auto, unfolding(strc_parse_grammar::specs::Streams::splitter))]
 fn splitter(
     alloc: Global,
     limit: usize,
@@ -91,7 +91,7 @@ fn splitter(
 }
 
 /// `split`: after the keyword.
-#[tactic(auto, unfolding(strc_grammar::specs::Streams::split))]
+#[tactic(auto, unfolding(strc_parse_grammar::specs::Streams::split))]
 fn split(
     alloc: Global,
     depth: usize,
@@ -108,7 +108,7 @@ fn split(
 }
 
 /// `join`: after the keyword.
-#[tactic(auto, unfolding(strc_grammar::specs::Streams::join))]
+#[tactic(auto, unfolding(strc_parse_grammar::specs::Streams::join))]
 fn join(alloc: Global, depth: usize, tokens: &[Token]) -> Result<Parsed<'_, Composition>, ReadError>
     requires { 0 < depth }
     ensures gives { Gives (parsed composition_view) result (spec.join depth (kinds tokens.now)) }
@@ -121,7 +121,7 @@ fn join(alloc: Global, depth: usize, tokens: &[Token]) -> Result<Parsed<'_, Comp
 }
 
 /// `enqueue`: after the keyword.
-#[tactic(auto, unfolding(strc_grammar::specs::Streams::enqueue))]
+#[tactic(auto, unfolding(strc_parse_grammar::specs::Streams::enqueue))]
 fn enqueue(
     alloc: Global,
     depth: usize,
@@ -142,7 +142,7 @@ where
     F: Fn(Global, &'t [Token], usize, &'t [Token]) -> Result<Parsed<'t, Stmt>, ReadError>,
 {
     /// A filter without a name: after its keyword.
-    #[tactic(auto, unfolding(strc_grammar::specs::Streams::anonymous_filter))]
+    #[tactic(auto, unfolding(strc_parse_grammar::specs::Streams::anonymous_filter))]
     fn anonymous_filter(
         &self,
         types: StreamType,
@@ -166,7 +166,7 @@ where
     }
 
     /// A composite stream without a name: at its kind.
-    #[tactic(auto, unfolding(strc_grammar::specs::Streams::anonymous_composite))]
+    #[tactic(auto, unfolding(strc_parse_grammar::specs::Streams::anonymous_composite))]
     fn anonymous_composite(
         &self,
         types: Option<StreamType>,
@@ -195,7 +195,7 @@ where
     }
 
     /// A stream without a name: after its type.
-    #[tactic(auto, unfolding(strc_grammar::specs::Streams::after_type))]
+    #[tactic(auto, unfolding(strc_parse_grammar::specs::Streams::after_type))]
     fn after_type(
         &self,
         types: StreamType,
@@ -217,7 +217,7 @@ where
     }
 
     /// The same with its type.
-    #[tactic(auto, unfolding(strc_grammar::specs::Streams::typed_child))]
+    #[tactic(auto, unfolding(strc_parse_grammar::specs::Streams::typed_child))]
     fn typed_child(&self, tokens: &'t [Token]) -> Result<Parsed<'t, Child>, ReadError>
         requires deep { 0 < self.now.depth }
         requires reads { ReadsStatements self.now.all.now (self.now.depth - 1)
@@ -232,7 +232,7 @@ where
     }
 
     /// A child that begins with this keyword.
-    #[tactic(auto, unfolding(strc_grammar::specs::Streams::keyword_child))]
+    #[tactic(auto, unfolding(strc_parse_grammar::specs::Streams::keyword_child))]
     fn keyword_child(
         &self,
         keyword: Keyword,
@@ -257,7 +257,7 @@ where
     }
 
     /// A child, with its semicolon where it has one.
-    #[tactic(auto, unfolding(strc_grammar::specs::Streams::child))]
+    #[tactic(auto, unfolding(strc_parse_grammar::specs::Streams::child))]
     fn child(&self, tokens: &'t [Token]) -> Result<Parsed<'t, Child>, ReadError>
         requires deep { 0 < self.now.depth }
         requires reads { ReadsStatements self.now.all.now (self.now.depth - 1)
@@ -277,7 +277,7 @@ where
     }
 
     /// A child for this, and its height: after the keyword.
-    #[tactic(auto, unfolding(strc_grammar::specs::Streams::child_for))]
+    #[tactic(auto, unfolding(strc_parse_grammar::specs::Streams::child_for))]
     fn child_for(
         &self,
         role: Role,
@@ -300,7 +300,7 @@ where
     }
 
     /// A statement of a composite stream that begins with this keyword, and the height of its part.
-    #[tactic(auto, unfolding(strc_grammar::specs::Streams::composition))]
+    #[tactic(auto, unfolding(strc_parse_grammar::specs::Streams::composition))]
     fn composition(
         &self,
         keyword: Keyword,
@@ -326,7 +326,7 @@ where
     }
 
     /// The same as a statement, and its height.
-    #[tactic(auto, unfolding(strc_grammar::specs::Streams::compose))]
+    #[tactic(auto, unfolding(strc_parse_grammar::specs::Streams::compose))]
     pub(crate) fn compose(
         &self,
         keyword: Keyword,

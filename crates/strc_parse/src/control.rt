@@ -2,12 +2,12 @@
 // which they take as a value, so that each is proved by itself.
 
 ghost use Rattle.std.specs.Prelude.{◌≡◌, ◌∷◌, ◌-◌, ◌<◌, max, map, true, IfOk};
-ghost use Rattle.strc_syntax.specs.View.{expr_view, stmt_view, member_view};
-ghost use Rattle.strc_grammar.specs.Grammar.{kinds};
-ghost use Rattle.strc_grammar.specs.Seen.{parsed, parsed_all};
-ghost use Rattle.strc_grammar.specs.Streams as spec;
-ghost use Rattle.strc_grammar.specs.Reading as reading;
-ghost use Rattle.strc_grammar.specs.Reading.{Gives, is_keyword};
+ghost use Rattle.strc_parse_tree.specs.View.{expr_view, stmt_view, member_view};
+ghost use Rattle.strc_parse_grammar.specs.Grammar.{kinds};
+ghost use Rattle.strc_parse_grammar.specs.Seen.{parsed, parsed_all};
+ghost use Rattle.strc_parse_grammar.specs.Streams as spec;
+ghost use Rattle.strc_parse_grammar.specs.Reading as reading;
+ghost use Rattle.strc_parse_grammar.specs.Reading.{Gives, is_keyword};
 ghost use Rattle.strc_lex.specs.declared.token.TokenKind.TheVariants as token;
 ghost use Rattle.strc_lex.specs.declared.token.Keyword.TheVariants as keyword;
 ghost use Rattle.strc_lex.specs.declared.token.Punctuation.TheVariants as punctuation;
@@ -19,12 +19,12 @@ use crate::kept::{node_of, node_of_three, node_of_two, with_next, with_node_heig
 use crate::place::placed;
 use crate::simple::{argument, bracketed, ended, for_heading, return_value};
 use std::alloc::Global;
-use strc_grammar::lookahead::{is_keyword, is_punctuation, peek, raised, tail, unexpected};
-use strc_grammar::parsed::Parsed;
-use strc_grammar::{Fault, ReadError};
 use strc_lex::token::{Keyword, Punctuation, Token, TokenKind};
-use strc_syntax::node::{block_of, for_of, if_else_of, if_of, while_of};
-use strc_syntax::tree::{Expr, Member, Stmt};
+use strc_parse_grammar::lookahead::{is_keyword, is_punctuation, peek, raised, tail, unexpected};
+use strc_parse_grammar::rule_result::Parsed;
+use strc_parse_grammar::{Fault, ReadError};
+use strc_parse_tree::node::{block_of, for_of, if_else_of, if_of, while_of};
+use strc_parse_tree::tree::{Expr, Member, Stmt};
 
 /// The rules of statements of at most this height, by a reader of those of one less, in a text of
 /// these tokens. What is read is among the last of them.
@@ -37,7 +37,7 @@ pub(crate) struct StatementRules<'t, F> {
 }
 
 /// A statement of at most this height, its height and what follows it.
-#[tactic(auto, unfolding(strc_grammar::specs::Streams::statement))]
+#[tactic(auto, unfolding(strc_parse_grammar::specs::Streams::statement))]
 fn statement<'t>(
     alloc: Global,
     all: &'t [Token],
@@ -61,7 +61,7 @@ fn statement<'t>(
 
 /// Statements up to the brace that closes them, each of at most this height, and the height of the
 /// highest or 0.
-#[tactic(auto, unfolding(strc_grammar::specs::Streams::statements))]
+#[tactic(auto, unfolding(strc_parse_grammar::specs::Streams::statements))]
 pub(crate) fn statements<'t>(
     alloc: Global,
     all: &'t [Token],
@@ -124,7 +124,7 @@ where
         placed(self.alloc, self.all, tokens, read)
     }
 
-    #[tactic(auto, unfolding(strc_grammar::specs::Streams::shallow))]
+    #[tactic(auto, unfolding(strc_parse_grammar::specs::Streams::shallow))]
     fn shallow(&self, tokens: &'t [Token]) -> Result<Parsed<'t, Stmt>, ReadError>
         requires deep { 0 < self.now.depth }
         requires reads { ReadsStatements self.now.all.now (self.now.depth - 1)
@@ -142,7 +142,7 @@ where
     }
 
     /// A statement that begins with this keyword.
-    #[tactic(auto, unfolding(strc_grammar::specs::Streams::keyword_statement))]
+    #[tactic(auto, unfolding(strc_parse_grammar::specs::Streams::keyword_statement))]
     fn keyword_statement(
         &self,
         keyword: Keyword,
@@ -179,7 +179,7 @@ where
     }
 
     /// `if`: after the keyword.
-    #[tactic(auto, unfolding(strc_grammar::specs::Streams::branch))]
+    #[tactic(auto, unfolding(strc_parse_grammar::specs::Streams::branch))]
     fn branch(&self, tokens: &'t [Token]) -> Result<Parsed<'t, Stmt>, ReadError>
         requires deep { 0 < self.now.depth }
         requires reads { ReadsStatements self.now.all.now (self.now.depth - 1)
@@ -195,7 +195,7 @@ where
     }
 
     /// What follows a branch, to which an `else` belongs that comes next.
-    #[tactic(auto, unfolding(strc_grammar::specs::Streams::after_branch))]
+    #[tactic(auto, unfolding(strc_parse_grammar::specs::Streams::after_branch))]
     fn after_branch(
         &self,
         condition: Parsed<'t, Expr>,
@@ -220,7 +220,7 @@ where
     }
 
     /// The branch after the `else` that comes next, with what is before it.
-    #[tactic(auto, unfolding(strc_grammar::specs::Streams::other_branch))]
+    #[tactic(auto, unfolding(strc_parse_grammar::specs::Streams::other_branch))]
     fn other_branch(
         &self,
         condition: Parsed<'t, Expr>,
@@ -244,7 +244,7 @@ where
     }
 
     /// `while`: after the keyword.
-    #[tactic(auto, unfolding(strc_grammar::specs::Streams::while_loop))]
+    #[tactic(auto, unfolding(strc_parse_grammar::specs::Streams::while_loop))]
     fn while_loop(&self, tokens: &'t [Token]) -> Result<Parsed<'t, Stmt>, ReadError>
         requires deep { 0 < self.now.depth }
         requires reads { ReadsStatements self.now.all.now (self.now.depth - 1)
@@ -261,7 +261,7 @@ where
     }
 
     /// `for`: after the keyword.
-    #[tactic(auto, unfolding(strc_grammar::specs::Streams::for_loop))]
+    #[tactic(auto, unfolding(strc_parse_grammar::specs::Streams::for_loop))]
     fn for_loop(&self, tokens: &'t [Token]) -> Result<Parsed<'t, Stmt>, ReadError>
         requires deep { 0 < self.now.depth }
         requires reads { ReadsStatements self.now.all.now (self.now.depth - 1)
@@ -281,7 +281,7 @@ where
     }
 
     /// A block as a statement: after its brace.
-    #[tactic(auto, unfolding(strc_grammar::specs::Streams::block))]
+    #[tactic(auto, unfolding(strc_parse_grammar::specs::Streams::block))]
     fn block(&self, tokens: &'t [Token]) -> Result<Parsed<'t, Stmt>, ReadError>
         requires deep { 0 < self.now.depth }
         requires reads { ReadsStatements self.now.all.now (self.now.depth - 1)
@@ -299,7 +299,7 @@ where
 
     /// Statements one depth below, up to the brace that closes them, and the height of the highest
     /// or 0.
-    #[tactic(auto, unfolding(strc_grammar::specs::Streams::statements))]
+    #[tactic(auto, unfolding(strc_parse_grammar::specs::Streams::statements))]
     pub(crate) fn statements(&self, tokens: &'t [Token]) -> Result<Parsed<'t, Vec<Stmt>>, ReadError>
         requires deep { 0 < self.now.depth }
         requires reads { ReadsStatements self.now.all.now (self.now.depth - 1)

@@ -1,26 +1,28 @@
 // Named streams and programs.
 
 ghost use Rattle.std.specs.Prelude.{◌≡◌, map, [], IfOk};
-ghost use Rattle.strc_syntax.specs.View.{declaration_view};
-ghost use Rattle.strc_grammar.specs.Grammar.{kinds, height_limit};
+ghost use Rattle.strc_parse_tree.specs.View.{declaration_view};
+ghost use Rattle.strc_parse_grammar.specs.Grammar.{kinds, height_limit};
 ghost use Rattle.strc_parse.specs.Seen.{seen_stream_heading, seen_declaration};
-ghost use Rattle.strc_grammar.specs.Streams as spec;
-ghost use Rattle.strc_grammar.specs.Reading.{Gives};
+ghost use Rattle.strc_parse_grammar.specs.Streams as spec;
+ghost use Rattle.strc_parse_grammar.specs.Reading.{Gives};
 ghost use Rattle.strc_parse.specs.Placed.{AreStreamsPlaced, IsReadPlaced};
 
 use crate::control::{members, statements};
 use std::alloc::Global;
-use strc_base::name::Name;
-use strc_grammar::lookahead::{expect, is_keyword, name, tail, unexpected};
-use strc_grammar::parameter::parameters;
-use strc_grammar::parsed::Parsed;
-use strc_grammar::stream_type::{composite_kind, stream_type};
-use strc_grammar::{HEIGHT_LIMIT, ReadError};
 use strc_lex::token::{Keyword, Punctuation, Token};
-use strc_syntax::tree::{CompositeKind, CompositeTree, Decl, FilterTree, StreamTree, StreamType};
+use strc_lex_names::name::Name;
+use strc_parse_grammar::lookahead::{expect, is_keyword, name, tail, unexpected};
+use strc_parse_grammar::parameter::parameters;
+use strc_parse_grammar::rule_result::Parsed;
+use strc_parse_grammar::stream_type::{composite_kind, stream_type};
+use strc_parse_grammar::{HEIGHT_LIMIT, ReadError};
+use strc_parse_tree::tree::{
+    CompositeKind, CompositeTree, Decl, FilterTree, StreamTree, StreamType,
+};
 
 /// The name of a stream, its parameters and the brace that opens it.
-#[tactic(auto, unfolding(strc_grammar::specs::Streams::heading))]
+#[tactic(auto, unfolding(strc_parse_grammar::specs::Streams::heading))]
 fn heading(
     alloc: Global,
     tokens: &[Token],
@@ -34,7 +36,7 @@ fn heading(
 }
 
 /// A filter: after its keyword.
-#[tactic(auto, unfolding(strc_grammar::specs::Streams::filter))]
+#[tactic(auto, unfolding(strc_parse_grammar::specs::Streams::filter))]
 fn filter<'t>(
     alloc: Global,
     all: &'t [Token],
@@ -62,7 +64,7 @@ fn filter<'t>(
 }
 
 /// A composite stream: after its kind.
-#[tactic(auto, unfolding(strc_grammar::specs::Streams::composite))]
+#[tactic(auto, unfolding(strc_parse_grammar::specs::Streams::composite))]
 fn composite<'t>(
     alloc: Global,
     all: &'t [Token],
@@ -87,7 +89,7 @@ fn composite<'t>(
 }
 
 /// A stream: after its type.
-#[tactic(auto, unfolding(strc_grammar::specs::Streams::stream))]
+#[tactic(auto, unfolding(strc_parse_grammar::specs::Streams::stream))]
 fn stream<'t>(
     alloc: Global,
     all: &'t [Token],
@@ -107,7 +109,7 @@ fn stream<'t>(
     }
 }
 
-#[tactic(auto, unfolding(strc_grammar::specs::Streams::declaration))]
+#[tactic(auto, unfolding(strc_parse_grammar::specs::Streams::declaration))]
 fn declaration<'t>(
     alloc: Global,
     all: &'t [Token],
@@ -122,7 +124,7 @@ fn declaration<'t>(
 }
 
 /// All declarations of a text.
-#[tactic(auto, unfolding(strc_grammar::specs::Streams::declarations))]
+#[tactic(auto, unfolding(strc_parse_grammar::specs::Streams::declarations))]
 pub(crate) fn declarations(alloc: Global, tokens: &[Token]) -> Result<Vec<Decl>, ReadError>
     ensures gives { Gives (λ v. (map declaration_view v.items, [])) result
         (spec.declarations height_limit (kinds tokens.entry.now)) }

@@ -6,11 +6,11 @@ ghost use Rattle.strc_parse.specs.Kept.{IsBoth, IsNested, IsFollowed, IsGrown, I
 ghost use Rattle.strc_parse.specs.Kept.{IsNodeOfTwo, IsNodeOfThree};
 
 use std::alloc::{AllocError, Global};
-use strc_grammar::ReadError;
-use strc_grammar::lookahead::{expect, raised};
-use strc_grammar::parsed::Parsed;
-use strc_grammar::part::beside;
 use strc_lex::token::{Punctuation, Token};
+use strc_parse_grammar::ReadError;
+use strc_parse_grammar::lookahead::{expect, raised};
+use strc_parse_grammar::part::beside;
+use strc_parse_grammar::rule_result::Parsed;
 
 /// A part that was read, and the next one, if that was read too, with the height of the higher.
 pub(crate) fn both<'t, A: Drop, B>(

@@ -2,8 +2,8 @@
 // Gives its syntax tree, or the refusal of tokens that no program has.
 // The theorem to rely on: `parse` answers Ok exactly with the tree of height at most `HEIGHT_LIMIT`
 // that has this spelling. `laws`: a text spells one program.
-// Stands on strc_grammar, whose rules it follows and which reads what has no statement in it, on
-// strc_syntax, whose trees it makes, and on strc_lex, whose tokens it reads.
+// Stands on strc_parse_grammar, whose rules it follows and which reads what has no statement in it,
+// on strc_parse_tree, whose trees it makes, and on strc_lex, whose tokens it reads.
 #![tactic(auto)]
 
 mod composition;
@@ -17,5 +17,5 @@ mod program;
 mod simple;
 
 pub use program::parse;
-pub use strc_grammar::{HEIGHT_LIMIT, ParseError, one_tree};
-pub use strc_syntax::tree;
+pub use strc_parse_grammar::{HEIGHT_LIMIT, ParseError, one_tree};
+pub use strc_parse_tree::tree;

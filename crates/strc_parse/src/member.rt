@@ -3,12 +3,12 @@
 ghost use Rattle.std.specs.Prelude.{◌≡◌, ◌∷◌, ◌-◌, ◌<◌, map, IfOk};
 ghost use Rattle.strc_lex.specs.declared.token.TokenKind.TheVariants as token;
 ghost use Rattle.strc_lex.specs.declared.token.Punctuation.TheVariants as punctuation;
-ghost use Rattle.strc_syntax.specs.View.{expr_view, rate_view, member_view};
-ghost use Rattle.strc_grammar.specs.Grammar.{kinds};
-ghost use Rattle.strc_grammar.specs.Seen.{parsed, parsed_all};
+ghost use Rattle.strc_parse_tree.specs.View.{expr_view, rate_view, member_view};
+ghost use Rattle.strc_parse_grammar.specs.Grammar.{kinds};
+ghost use Rattle.strc_parse_grammar.specs.Seen.{parsed, parsed_all};
 ghost use Rattle.strc_parse.specs.Seen.{block_view, phase_view, seen_rate};
-ghost use Rattle.strc_grammar.specs.Streams as spec;
-ghost use Rattle.strc_grammar.specs.Reading.{Gives};
+ghost use Rattle.strc_parse_grammar.specs.Streams as spec;
+ghost use Rattle.strc_parse_grammar.specs.Reading.{Gives};
 ghost use Rattle.strc_parse.specs.Placed.{ArePartsPlaced, AreRatesPlaced, IsBlockPlaced};
 ghost use Rattle.strc_parse.specs.Placed.{IsMemberPlaced, IsPhasePlaced};
 ghost use Rattle.strc_parse.specs.Readers.{ReadsStatements};
@@ -18,19 +18,21 @@ use crate::control::StatementRules;
 use crate::kept::{both, with_mark, with_next};
 use crate::place::place_between;
 use std::alloc::Global;
-use strc_grammar::ReadError;
-use strc_grammar::expression::{LOWEST_PRECEDENCE, expression};
-use strc_grammar::lookahead::{expect, is_heading, is_punctuation, name, peek, tail, unexpected};
-use strc_grammar::parameter::closed_parameters;
-use strc_grammar::parsed::Parsed;
-use strc_grammar::part::{before, beside};
-use strc_grammar::variable::declared;
 use strc_lex::token::{Keyword, Punctuation, Token, TokenKind};
-use strc_syntax::node::{helper_of, init_of, prework_of, work_of};
-use strc_syntax::tree::{Expr, HelperType, Member, RateKind, RateTree, Stmt};
+use strc_parse_grammar::ReadError;
+use strc_parse_grammar::expression::{LOWEST_PRECEDENCE, expression};
+use strc_parse_grammar::lookahead::{
+    expect, is_heading, is_punctuation, name, peek, tail, unexpected,
+};
+use strc_parse_grammar::parameter::closed_parameters;
+use strc_parse_grammar::part::{before, beside};
+use strc_parse_grammar::rule_result::Parsed;
+use strc_parse_grammar::variable::declared;
+use strc_parse_tree::node::{helper_of, init_of, prework_of, work_of};
+use strc_parse_tree::tree::{Expr, HelperType, Member, RateKind, RateTree, Stmt};
 
 /// The kind of rate whose keyword comes first.
-#[tactic(auto, unfolding(strc_grammar::specs::Streams::rate_kind))]
+#[tactic(auto, unfolding(strc_parse_grammar::specs::Streams::rate_kind))]
 fn rate_kind(tokens: &[Token]) -> Option<RateKind>
     ensures { result ≡ spec.rate_kind (kinds tokens.now) }
 {
@@ -50,7 +52,7 @@ fn has_rate(kind: RateKind, rates: &[RateTree]) -> bool
 }
 
 /// A rate of this kind, which the rates so far don't have: at its keyword.
-#[tactic(auto, unfolding(strc_grammar::specs::Streams::rate_of))]
+#[tactic(auto, unfolding(strc_parse_grammar::specs::Streams::rate_of))]
 fn rate_of<'t>(
     alloc: Global,
     limit: usize,
@@ -68,7 +70,7 @@ fn rate_of<'t>(
 }
 
 /// The rates of a work, each at most once, and the height of the highest or 0.
-#[tactic(auto, unfolding(strc_grammar::specs::Streams::rates))]
+#[tactic(auto, unfolding(strc_parse_grammar::specs::Streams::rates))]
 fn rates<'t>(
     alloc: Global,
     all: &'t [Token],
@@ -96,7 +98,7 @@ fn rates<'t>(
 }
 
 /// Fields of one type, and the height of the highest expression or 0.
-#[tactic(auto, unfolding(strc_grammar::specs::Streams::fields))]
+#[tactic(auto, unfolding(strc_parse_grammar::specs::Streams::fields))]
 fn fields<'t>(
     alloc: Global,
     all: &'t [Token],
@@ -121,7 +123,7 @@ where
     F: Fn(Global, &'t [Token], usize, &'t [Token]) -> Result<Parsed<'t, Stmt>, ReadError>,
 {
     /// A block with its braces.
-    #[tactic(auto, unfolding(strc_grammar::specs::Streams::braced))]
+    #[tactic(auto, unfolding(strc_parse_grammar::specs::Streams::braced))]
     pub(crate) fn braced(&self, tokens: &'t [Token]) -> Result<Parsed<'t, Vec<Stmt>>, ReadError>
         requires deep { 0 < self.now.depth }
         requires reads { ReadsStatements self.now.all.now (self.now.depth - 1)
@@ -136,7 +138,7 @@ where
     }
 
     /// An initialisation: after the keyword.
-    #[tactic(auto, unfolding(strc_grammar::specs::Streams::init))]
+    #[tactic(auto, unfolding(strc_parse_grammar::specs::Streams::init))]
     fn init(&self, tokens: &'t [Token]) -> Result<Parsed<'t, Member>, ReadError>
         requires deep { 0 < self.now.depth }
         requires reads { ReadsStatements self.now.all.now (self.now.depth - 1)
@@ -151,7 +153,7 @@ where
     }
 
     /// Rates and a block.
-    #[tactic(auto, unfolding(strc_grammar::specs::Streams::phase))]
+    #[tactic(auto, unfolding(strc_parse_grammar::specs::Streams::phase))]
     fn phase(
         &self,
         tokens: &'t [Token],
@@ -204,7 +206,7 @@ where
     }
 
     /// A helper function: after its type.
-    #[tactic(auto, unfolding(strc_grammar::specs::Streams::helper_function))]
+    #[tactic(auto, unfolding(strc_parse_grammar::specs::Streams::helper_function))]
     fn helper_function(
         &self,
         kind: HelperType,
@@ -229,7 +231,7 @@ where
     }
 
     /// Fields or a helper function of this type: at the type's keyword.
-    #[tactic(auto, unfolding(strc_grammar::specs::Streams::typed_member))]
+    #[tactic(auto, unfolding(strc_parse_grammar::specs::Streams::typed_member))]
     fn typed_member(
         &self,
         kind: HelperType,
@@ -251,7 +253,7 @@ where
         }
     }
 
-    #[tactic(auto, unfolding(strc_grammar::specs::Streams::member))]
+    #[tactic(auto, unfolding(strc_parse_grammar::specs::Streams::member))]
     fn member(&self, tokens: &'t [Token]) -> Result<Parsed<'t, Member>, ReadError>
         requires deep { 0 < self.now.depth }
         requires reads { ReadsStatements self.now.all.now (self.now.depth - 1)
@@ -278,7 +280,7 @@ where
     }
 
     /// The members of a filter, up to the brace that closes it.
-    #[tactic(auto, unfolding(strc_grammar::specs::Streams::members))]
+    #[tactic(auto, unfolding(strc_parse_grammar::specs::Streams::members))]
     pub(crate) fn members(&self, tokens: &'t [Token]) -> Result<Parsed<'t, Vec<Member>>, ReadError>
         requires deep { 0 < self.now.depth }
         requires reads { ReadsStatements self.now.all.now (self.now.depth - 1)

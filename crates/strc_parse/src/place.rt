@@ -1,20 +1,20 @@
 // Where statements, rates and fields are in the text.
 
 ghost use Rattle.std.specs.Prelude.{◌≡◌, IfOk, IfErr, length};
-ghost use Rattle.strc_syntax.specs.View.{stmt_view};
-ghost use Rattle.strc_grammar.specs.Seen.{parsed};
-ghost use Rattle.strc_grammar.specs.declared.error.ReadError.TheVariants.{Memory};
+ghost use Rattle.strc_parse_tree.specs.View.{stmt_view};
+ghost use Rattle.strc_parse_grammar.specs.Seen.{parsed};
+ghost use Rattle.strc_parse_grammar.specs.declared.error.ReadError.TheVariants.{Memory};
 ghost use Rattle.strc_parse.specs.Placed as spec;
 ghost use Rattle.strc_parse.specs.Placed.{IsFrom};
 
 use std::alloc::Global;
-use strc_base::place::Span;
-use strc_grammar::ReadError;
-use strc_grammar::parsed::Parsed;
-use strc_grammar::place::span_of;
 use strc_lex::token::Token;
-use strc_syntax::node::placed_of;
-use strc_syntax::tree::Stmt;
+use strc_lex_names::place::Span;
+use strc_parse_grammar::ReadError;
+use strc_parse_grammar::place::span_of;
+use strc_parse_grammar::rule_result::Parsed;
+use strc_parse_tree::node::placed_of;
+use strc_parse_tree::tree::Stmt;
 
 /// The place in a text of these tokens from where so many of them are left up to where so many are.
 pub(crate) fn place_between(all: &[Token], from: usize, after: usize) -> Span

@@ -1,18 +1,18 @@
 // Whole texts.
 
 ghost use Rattle.std.specs.Prelude.{◌≡◌, List, IfOk, IfErr};
-ghost use Rattle.strc_syntax.specs.Tree.{Declaration};
-ghost use Rattle.strc_syntax.specs.View.{program_view};
-ghost use Rattle.strc_grammar.specs.Grammar.{kinds, height_limit, Parses, Refuses, IsFound};
-ghost use Rattle.strc_grammar.specs.Streams as spec;
-ghost use Rattle.strc_grammar.specs.Reading.{Gives};
+ghost use Rattle.strc_parse_tree.specs.Tree.{Declaration};
+ghost use Rattle.strc_parse_tree.specs.View.{program_view};
+ghost use Rattle.strc_parse_grammar.specs.Grammar.{kinds, height_limit, Parses, Refuses, IsFound};
+ghost use Rattle.strc_parse_grammar.specs.Streams as spec;
+ghost use Rattle.strc_parse_grammar.specs.Reading.{Gives};
 ghost use Rattle.strc_parse.specs.Placed.{IsProgramPlaced};
 
 use crate::declaration::declarations;
 use std::alloc::Global;
-use strc_grammar::{Fault, ParseError, ReadError};
 use strc_lex::token::Token;
-use strc_syntax::tree::Program;
+use strc_parse_grammar::{Fault, ParseError, ReadError};
+use strc_parse_tree::tree::Program;
 
 fn program(alloc: Global, tokens: &[Token]) -> Result<Program, ReadError>
     ensures gives { Gives program_view result (spec.program height_limit (kinds tokens.now)) }

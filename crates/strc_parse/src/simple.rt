@@ -3,32 +3,32 @@
 ghost use Rattle.std.specs.Prelude.{◌≡◌, ◌∷◌, ◌-◌, ◌<◌, IfOk};
 ghost use Rattle.strc_lex.specs.declared.token.TokenKind.TheVariants as token;
 ghost use Rattle.strc_lex.specs.declared.token.Punctuation.TheVariants as punctuation;
-ghost use Rattle.strc_syntax.specs.View.{expr_view, stmt_view};
-ghost use Rattle.strc_grammar.specs.Grammar.{kinds};
+ghost use Rattle.strc_parse_tree.specs.View.{expr_view, stmt_view};
+ghost use Rattle.strc_parse_grammar.specs.Grammar.{kinds};
 ghost use Rattle.std.specs.Option.{option_map};
-ghost use Rattle.strc_grammar.specs.Seen.{parsed};
+ghost use Rattle.strc_parse_grammar.specs.Seen.{parsed};
 ghost use Rattle.strc_parse.specs.Seen.{heading_view, after_first_view};
-ghost use Rattle.strc_grammar.specs.Reading as spec;
-ghost use Rattle.strc_grammar.specs.Reading.{Gives};
+ghost use Rattle.strc_parse_grammar.specs.Reading as spec;
+ghost use Rattle.strc_parse_grammar.specs.Reading.{Gives};
 ghost use Rattle.strc_parse.specs.Placed.{IsHeadingPlaced, IsPlain, IsStepPlaced};
 
 use crate::kept::{both, node_of, with_mark, with_node_height};
 use crate::place::placed;
 use std::alloc::Global;
 use std::mem;
-use strc_base::name::Name;
-use strc_grammar::ReadError;
-use strc_grammar::expression::{LOWEST_PRECEDENCE, closed, expression};
-use strc_grammar::lookahead::{expect, is_punctuation, peek, raised, tail};
-use strc_grammar::operator::assign_at;
-use strc_grammar::parsed::Parsed;
-use strc_grammar::part::raise;
-use strc_grammar::variable::declared;
 use strc_lex::token::{Keyword, Punctuation, Token, TokenKind};
-use strc_syntax::tree::{AssignOperator, Expr, Stmt};
+use strc_lex_names::name::Name;
+use strc_parse_grammar::ReadError;
+use strc_parse_grammar::expression::{LOWEST_PRECEDENCE, closed, expression};
+use strc_parse_grammar::lookahead::{expect, is_punctuation, peek, raised, tail};
+use strc_parse_grammar::operator::assign_at;
+use strc_parse_grammar::part::raise;
+use strc_parse_grammar::rule_result::Parsed;
+use strc_parse_grammar::variable::declared;
+use strc_parse_tree::tree::{AssignOperator, Expr, Stmt};
 
 /// The declaration as a statement.
-#[tactic(auto, unfolding(strc_grammar::specs::Reading::declare))]
+#[tactic(auto, unfolding(strc_parse_grammar::specs::Reading::declare))]
 fn declare(alloc: Global, depth: usize, tokens: &[Token]) -> Result<Parsed<'_, Stmt>, ReadError>
     requires { 0 < depth }
     ensures gives { Gives (parsed stmt_view) result (spec.declare depth (kinds tokens.now)) }
@@ -39,7 +39,7 @@ fn declare(alloc: Global, depth: usize, tokens: &[Token]) -> Result<Parsed<'_, S
 }
 
 /// An expression that was read, as a statement.
-#[tactic(auto, unfolding(strc_grammar::specs::Reading::evaluate))]
+#[tactic(auto, unfolding(strc_parse_grammar::specs::Reading::evaluate))]
 fn evaluate<'t>(
     depth: usize,
     value: Expr,
@@ -55,7 +55,7 @@ fn evaluate<'t>(
 }
 
 /// `x = e`: after the operator.
-#[tactic(auto, unfolding(strc_grammar::specs::Reading::assign_to))]
+#[tactic(auto, unfolding(strc_parse_grammar::specs::Reading::assign_to))]
 fn assign_to<'t>(
     alloc: Global,
     depth: usize,
@@ -78,7 +78,7 @@ fn assign_to<'t>(
 }
 
 /// `x[i] = e`: after the operator, with the height of the element.
-#[tactic(auto, unfolding(strc_grammar::specs::Reading::assign_element))]
+#[tactic(auto, unfolding(strc_parse_grammar::specs::Reading::assign_element))]
 fn assign_element<'t>(
     alloc: Global,
     depth: usize,
@@ -105,7 +105,7 @@ fn assign_element<'t>(
 
 /// What an operator that comes first makes of the expression before it: an assignment, where that
 /// is a variable or an element.
-#[tactic(auto, unfolding(strc_grammar::specs::Reading::assignment))]
+#[tactic(auto, unfolding(strc_parse_grammar::specs::Reading::assignment))]
 fn assignment<'t>(
     alloc: Global,
     depth: usize,
@@ -134,7 +134,7 @@ fn assignment<'t>(
     }
 }
 
-#[tactic(auto, unfolding(strc_grammar::specs::Reading::after_value))]
+#[tactic(auto, unfolding(strc_parse_grammar::specs::Reading::after_value))]
 fn after_value<'t>(
     alloc: Global,
     depth: usize,
@@ -154,7 +154,7 @@ fn after_value<'t>(
 }
 
 /// An expression or an assignment.
-#[tactic(auto, unfolding(strc_grammar::specs::Reading::simple))]
+#[tactic(auto, unfolding(strc_parse_grammar::specs::Reading::simple))]
 fn simple(alloc: Global, depth: usize, tokens: &[Token]) -> Result<Parsed<'_, Stmt>, ReadError>
     requires { 0 < depth }
     ensures gives { Gives (parsed stmt_view) result (spec.simple depth (kinds tokens.now)) }
@@ -165,7 +165,7 @@ fn simple(alloc: Global, depth: usize, tokens: &[Token]) -> Result<Parsed<'_, St
 }
 
 /// The same, or nothing before this punctuation mark.
-#[tactic(auto, unfolding(strc_grammar::specs::Reading::optional))]
+#[tactic(auto, unfolding(strc_parse_grammar::specs::Reading::optional))]
 fn optional(
     alloc: Global,
     depth: usize,
@@ -184,7 +184,7 @@ fn optional(
 }
 
 /// A statement up to its semicolon.
-#[tactic(auto, unfolding(strc_grammar::specs::Reading::part))]
+#[tactic(auto, unfolding(strc_parse_grammar::specs::Reading::part))]
 fn part(alloc: Global, depth: usize, tokens: &[Token]) -> Result<Parsed<'_, Stmt>, ReadError>
     requires { 0 < depth }
     ensures gives { Gives (parsed stmt_view) result (spec.part depth (kinds tokens.now)) }
@@ -198,7 +198,7 @@ fn part(alloc: Global, depth: usize, tokens: &[Token]) -> Result<Parsed<'_, Stmt
 }
 
 /// The same with the semicolon.
-#[tactic(auto, unfolding(strc_grammar::specs::Reading::ended))]
+#[tactic(auto, unfolding(strc_parse_grammar::specs::Reading::ended))]
 pub(crate) fn ended(
     alloc: Global,
     depth: usize,
@@ -212,7 +212,7 @@ pub(crate) fn ended(
 }
 
 /// `(e)`, with the height of e.
-#[tactic(auto, unfolding(strc_grammar::specs::Reading::bracketed))]
+#[tactic(auto, unfolding(strc_parse_grammar::specs::Reading::bracketed))]
 pub(crate) fn bracketed(
     alloc: Global,
     depth: usize,
@@ -226,7 +226,7 @@ pub(crate) fn bracketed(
 }
 
 /// `(e);`, with the height of a node above e.
-#[tactic(auto, unfolding(strc_grammar::specs::Reading::argument))]
+#[tactic(auto, unfolding(strc_parse_grammar::specs::Reading::argument))]
 pub(crate) fn argument(
     alloc: Global,
     depth: usize,
@@ -240,7 +240,7 @@ pub(crate) fn argument(
 }
 
 /// An expression, if there is one, and its semicolon.
-#[tactic(auto, unfolding(strc_grammar::specs::Reading::optional_value))]
+#[tactic(auto, unfolding(strc_parse_grammar::specs::Reading::optional_value))]
 fn optional_value(
     alloc: Global,
     depth: usize,
@@ -257,7 +257,7 @@ fn optional_value(
 }
 
 /// `return`: after the keyword.
-#[tactic(auto, unfolding(strc_grammar::specs::Reading::return_value))]
+#[tactic(auto, unfolding(strc_parse_grammar::specs::Reading::return_value))]
 pub(crate) fn return_value(
     alloc: Global,
     depth: usize,
@@ -272,7 +272,7 @@ pub(crate) fn return_value(
 }
 
 /// The step of a `for`, and the bracket after it.
-#[tactic(auto, unfolding(strc_grammar::specs::Reading::last_part))]
+#[tactic(auto, unfolding(strc_parse_grammar::specs::Reading::last_part))]
 fn last_part<'t>(
     alloc: Global,
     all: &'t [Token],
@@ -289,7 +289,7 @@ fn last_part<'t>(
 }
 
 /// `condition; step)`, and the height of the higher.
-#[tactic(auto, unfolding(strc_grammar::specs::Reading::after_first))]
+#[tactic(auto, unfolding(strc_parse_grammar::specs::Reading::after_first))]
 fn after_first<'t>(
     alloc: Global,
     all: &'t [Token],
@@ -314,7 +314,7 @@ fn after_first<'t>(
 pub(crate) type ForHeading = (Stmt, (Option<Expr>, Stmt));
 
 /// `(first; condition; step)`, and the height of the highest.
-#[tactic(auto, unfolding(strc_grammar::specs::Reading::for_heading))]
+#[tactic(auto, unfolding(strc_parse_grammar::specs::Reading::for_heading))]
 pub(crate) fn for_heading<'t>(
     alloc: Global,
     all: &'t [Token],

@@ -2,18 +2,18 @@
 use Rattle.std.proofs.Common.{◌≡◌, true, false, List, [], ◌∷◌, Result, is_some, unwrap_or, refl, ap}
 use Rattle.std.proofs.Common.{◌∙◌, Bool, false, not, ◌||◌, Some, Ok, Err}
 use Rattle.std.specs.Prelude.{if◌then◌else◌}
-use Rattle.strc_base.specs.Results.{result_and_then}
-use Rattle.strc_semantics.specs.Filters.{push_rate, pop_rate, item_count, window_size}
+use Rattle.strc_lex_names.specs.Results.{result_and_then}
+use Rattle.strc_work_meaning.specs.Filters.{push_rate, pop_rate, item_count, window_size}
 use Rattle.strc_rate.specs.declared.counts.Counts.{Counts}
 use Rattle.strc_rate.specs.declared.sight.PeekBounds.{PeekBounds}
 use Rattle.strc_rate.specs.Counts.{stmts_counts}
 use Rattle.strc_rate.specs.Peeks.{body_sights}
 use Rattle.strc_rate.specs.declared.rates.RateError.TheVariants.{RateLimit}
 use Rattle.strc_rate.specs.Rates.{are_within_limit, same_rate, with_closed_peeks, counted}
-use Rattle.strc_syntax.specs.Tree as tree
-use Rattle.strc_semantics.specs.Filters.{work_block, work_rates, prework_block, prework_rates}
-use Rattle.strc_semantics.specs.Filters.{body_block, body_rates}
-use Rattle.strc_semantics.specs.declared.body.Body.TheVariants as body
+use Rattle.strc_parse_tree.specs.Tree as tree
+use Rattle.strc_work_meaning.specs.Filters.{work_block, work_rates, prework_block, prework_rates}
+use Rattle.strc_work_meaning.specs.Filters.{body_block, body_rates}
+use Rattle.strc_work_meaning.specs.declared.body.Body.TheVariants as body
 use Rattle.strc_rate.specs.declared.rates.RateError.{RateError}
 use Rattle.strc_rate.specs.declared.rates.RateError.TheVariants as broken
 use Rattle.strc_rate.specs.Rates.{BodyRates, body_checked, some_prework, prework_checked}

@@ -10,26 +10,30 @@ use Rattle.std.specs.Result.{IfOk}
 use Rattle.std.proofs.lemmas.Option.{IfSome_then}
 use Rattle.std.proofs.lemmas.Result.{IfOk-weaker}
 use Rattle.std.proofs.lemmas.Bool.{cases_lt}
-use Rattle.strc_base.specs.Results.{result_and_then}
-use Rattle.strc_syntax.specs.Tree as tree
-use Rattle.strc_syntax.specs.declared.tree.AssignOperator.{AssignOperator}
-use Rattle.strc_syntax.specs.declared.tree.AssignOperator.TheVariants as assign
-use Rattle.strc_semantics.specs.declared.fault.Cause.{Cause}
-use Rattle.strc_semantics.specs.declared.fault.Cause.TheVariants.{Turns}
-use Rattle.strc_semantics.specs.Arithmetic.{wrapped, truth, is_true}
-use Rattle.strc_base.specs.Names.{has_name}
-use Rattle.strc_semantics.specs.Scoping.{Scope, size_of, names_after, is_declared}
+use Rattle.strc_lex_names.specs.Results.{result_and_then}
+use Rattle.strc_parse_tree.specs.Tree as tree
+use Rattle.strc_parse_tree.specs.declared.tree.AssignOperator.{AssignOperator}
+use Rattle.strc_parse_tree.specs.declared.tree.AssignOperator.TheVariants as assign
+use Rattle.strc_work_meaning.specs.declared.fault.Cause.{Cause}
+use Rattle.strc_work_meaning.specs.declared.fault.Cause.TheVariants.{Turns}
+use Rattle.strc_work_meaning.specs.Arithmetic.{wrapped, truth, is_true}
+use Rattle.strc_lex_names.specs.Names.{has_name}
+use Rattle.strc_work_meaning.specs.Scoping.{Scope, size_of, names_after, is_declared}
 use Rattle.strc_rate.proofs.Unreturned.{IsPlain}
-use Rattle.strc_semantics.specs.Firing.{Setting, Traffic, Store, cells_named, with_cell, value_in}
-use Rattle.strc_semantics.specs.Firing.{assigned, declared_in, value_of, initial_cells}
-use Rattle.strc_semantics.specs.Firing.{condition_value, turned, turn_limit, looped, inside}
-use Rattle.strc_semantics.specs.Firing.{block_left, stmt_done}
+use Rattle.strc_work_meaning.specs.Firing.{Setting, Traffic, Store, cells_named, with_cell}
+use Rattle.strc_work_meaning.specs.Firing.{value_in}
+use Rattle.strc_work_meaning.specs.Firing.{assigned, declared_in, value_of, initial_cells}
+use Rattle.strc_work_meaning.specs.Firing.{condition_value, turned, turn_limit, looped, inside}
+use Rattle.strc_work_meaning.specs.Firing.{block_left, stmt_done}
 use Rattle.strc_rate.proofs.Scopes.{scope_of, scope_of-with_cell}
-use Rattle.strc_interval.specs.Constant.{constant}
-use Rattle.strc_interval.specs.declared.loops.Bound.{Bound}
-use Rattle.strc_interval.specs.Loops.{Locals, First, Loop, bound_of, move_of, first_declared}
-use Rattle.strc_interval.specs.Loops.{first_assigned, first_of, loop_of, counted_from, counted_loop}
-use Rattle.strc_interval.specs.Loops.{value_after, stmt_writes}
+use Rattle.strc_rate_intervals.specs.Constant.{constant}
+use Rattle.strc_rate_intervals.specs.declared.loops.Bound.{Bound}
+use Rattle.strc_rate_intervals.specs.Loops.{First, Loop, bound_of, move_of, first_declared}
+use Rattle.strc_work_writes.specs.LocalWrites.{Locals}
+use Rattle.strc_rate_intervals.specs.Loops.{first_assigned, first_of, loop_of, counted_from}
+use Rattle.strc_rate_intervals.specs.Loops.{counted_loop}
+use Rattle.strc_rate_intervals.specs.Loops.{value_after}
+use Rattle.strc_work_writes.specs.LocalWrites.{stmt_writes}
 use Rattle.strc_rate.specs.Turns.{TurnsAreLeast}
 use Rattle.strc_rate.proofs.Results.{then_ok, both_ok, done_ok, ok_known, below, below_all}
 use Rattle.strc_rate.proofs.Results.{above, above_more}

@@ -7,22 +7,24 @@ use Rattle.std.specs.Option.{IfSome}
 use Rattle.std.specs.Result.{IfOk}
 use Rattle.std.proofs.lemmas.Bool.{eqb-true}
 use Rattle.std.proofs.lemmas.Result.{IfOk-weaker}
-use Rattle.strc_base.specs.Results.{result_and_then}
-use Rattle.strc_syntax.specs.Tree as tree
-use Rattle.strc_syntax.specs.declared.tree.AssignOperator.{AssignOperator}
-use Rattle.strc_syntax.specs.declared.tree.AssignOperator.TheVariants as assign
-use Rattle.strc_syntax.specs.declared.tree.BinaryOperator.{BinaryOperator}
-use Rattle.strc_syntax.specs.declared.tree.BinaryOperator.TheVariants as binary
-use Rattle.strc_semantics.specs.declared.fault.Cause.{Cause}
-use Rattle.strc_semantics.specs.declared.fault.Cause.TheVariants.{PeekRange}
-use Rattle.strc_semantics.specs.Arithmetic.{is_true, binary_value}
-use Rattle.strc_semantics.specs.Firing.{Setting, Traffic, Store, item_popped, pushed_to, joined}
-use Rattle.strc_semantics.specs.Firing.{peeked_from, value_of, value_in, assigned_value, place_of}
-use Rattle.strc_semantics.specs.Firing.{cell_in, cell_set, declared_in, element_joined, element_set}
-use Rattle.strc_semantics.specs.Firing.{initial_cells, variables_declared, arguments_given}
-use Rattle.strc_semantics.specs.Firing.{values_of}
-use Rattle.strc_semantics.specs.Firing.{fields_in}
-use Rattle.strc_interval.specs.Constant.{constant}
+use Rattle.strc_lex_names.specs.Results.{result_and_then}
+use Rattle.strc_parse_tree.specs.Tree as tree
+use Rattle.strc_parse_tree.specs.declared.tree.AssignOperator.{AssignOperator}
+use Rattle.strc_parse_tree.specs.declared.tree.AssignOperator.TheVariants as assign
+use Rattle.strc_parse_tree.specs.declared.tree.BinaryOperator.{BinaryOperator}
+use Rattle.strc_parse_tree.specs.declared.tree.BinaryOperator.TheVariants as binary
+use Rattle.strc_work_meaning.specs.declared.fault.Cause.{Cause}
+use Rattle.strc_work_meaning.specs.declared.fault.Cause.TheVariants.{PeekRange}
+use Rattle.strc_work_meaning.specs.Arithmetic.{is_true, binary_value}
+use Rattle.strc_work_meaning.specs.Firing.{Setting, Traffic, Store, item_popped, pushed_to, joined}
+use Rattle.strc_work_meaning.specs.Firing.{peeked_from, value_of, value_in, assigned_value}
+use Rattle.strc_work_meaning.specs.Firing.{place_of}
+use Rattle.strc_work_meaning.specs.Firing.{cell_in, cell_set, declared_in, element_joined}
+use Rattle.strc_work_meaning.specs.Firing.{element_set}
+use Rattle.strc_work_meaning.specs.Firing.{initial_cells, variables_declared, arguments_given}
+use Rattle.strc_work_meaning.specs.Firing.{values_of}
+use Rattle.strc_work_meaning.specs.Firing.{fields_in}
+use Rattle.strc_rate_intervals.specs.Constant.{constant}
 use Rattle.strc_rate.specs.Counts.{Counts, saturated, no_items, one_push, one_pop, same_counts}
 use Rattle.strc_rate.specs.Counts.{added, sequence, if_equal, require_zero, multiplied, repeated}
 use Rattle.strc_rate.specs.Counts.{branch_counts, Need, need_by, need_of, needed, expr_counts}

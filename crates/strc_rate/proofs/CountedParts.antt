@@ -4,20 +4,21 @@ use Rattle.std.proofs.Common.{List, [], ◌∷◌, ◌++◌, length, neg_ℤ, Op
 use Rattle.std.specs.Prelude.{bytes_eq, if◌then◌else◌}
 use Rattle.std.specs.Option.{IfSome, option_and_then, option_map}
 use Rattle.std.proofs.lemmas.Result.{IfOk-weaker}
-use Rattle.strc_syntax.specs.Tree as tree
-use Rattle.strc_syntax.specs.declared.tree.AssignOperator.{AssignOperator}
-use Rattle.strc_syntax.specs.declared.tree.AssignOperator.TheVariants as assign
-use Rattle.strc_syntax.specs.declared.tree.BinaryOperator.{BinaryOperator}
-use Rattle.strc_syntax.specs.declared.tree.BinaryOperator.TheVariants as binary
-use Rattle.strc_semantics.specs.Arithmetic.{is_true}
-use Rattle.strc_semantics.specs.Constants.{decides, constant_value}
-use Rattle.strc_semantics.specs.Firing.{Setting, Store, value_of}
-use Rattle.strc_interval.specs.Constant.{is_constant, faultless, constant}
-use Rattle.strc_interval.specs.declared.loops.Bound.{Bound}
-use Rattle.strc_interval.specs.Loops.{Locals, First, Loop, stmt_writes, is_order, is_variable}
-use Rattle.strc_interval.specs.Loops.{bound_of, step_move, moved_by, sum_move, assign_move}
-use Rattle.strc_interval.specs.Loops.{value_move, move_of, first_of, loop_of, counted_from}
-use Rattle.strc_interval.specs.Loops.{counted_loop}
+use Rattle.strc_parse_tree.specs.Tree as tree
+use Rattle.strc_parse_tree.specs.declared.tree.AssignOperator.{AssignOperator}
+use Rattle.strc_parse_tree.specs.declared.tree.AssignOperator.TheVariants as assign
+use Rattle.strc_parse_tree.specs.declared.tree.BinaryOperator.{BinaryOperator}
+use Rattle.strc_parse_tree.specs.declared.tree.BinaryOperator.TheVariants as binary
+use Rattle.strc_work_meaning.specs.Arithmetic.{is_true}
+use Rattle.strc_work_meaning.specs.Constants.{decides, constant_value}
+use Rattle.strc_work_meaning.specs.Firing.{Setting, Store, value_of}
+use Rattle.strc_rate_intervals.specs.Constant.{is_constant, faultless, constant}
+use Rattle.strc_rate_intervals.specs.declared.loops.Bound.{Bound}
+use Rattle.strc_rate_intervals.specs.Loops.{First, Loop, is_order, is_variable}
+use Rattle.strc_work_writes.specs.LocalWrites.{Locals, stmt_writes}
+use Rattle.strc_rate_intervals.specs.Loops.{bound_of, step_move, moved_by, sum_move, assign_move}
+use Rattle.strc_rate_intervals.specs.Loops.{value_move, move_of, first_of, loop_of, counted_from}
+use Rattle.strc_rate_intervals.specs.Loops.{counted_loop}
 use Rattle.strc_rate.specs.Entries.{peeks_of_expr, peeks_of_arguments, peeks_of_option}
 use Rattle.strc_rate.specs.Entries.{peeks_of_stmt}
 use Rattle.strc_rate.specs.PeeksSafe.{ExprIsSafe, ArgumentsAreSafe, OptionIsSafe, StmtIsSafe}

@@ -1,11 +1,11 @@
 -- Counts one after the other.
 use Rattle.std.proofs.Common.{◌≡◌, ℕ, ◌+◌, List, [], ◌∷◌, Option, Some, None, refl, sym, ap, ◌∙◌}
 use Rattle.std.proofs.Common.{arith}
-use Rattle.strc_syntax.specs.Tree as tree
-use Rattle.strc_interval.specs.Loops.{Locals, locals_after}
-use Rattle.strc_interval.specs.Intervals.{names_of}
-use Rattle.strc_interval.specs.Intervals.{Intervals, intervals_after}
-use Rattle.strc_interval.proofs.IntervalGrowth.{names_after}
+use Rattle.strc_parse_tree.specs.Tree as tree
+use Rattle.strc_work_writes.specs.LocalWrites.{Locals, locals_after}
+use Rattle.strc_rate_intervals.specs.Intervals.{names_of}
+use Rattle.strc_rate_intervals.specs.Intervals.{Intervals, intervals_after}
+use Rattle.strc_rate_intervals.proofs.IntervalGrowth.{names_after}
 use Rattle.strc_rate.specs.Counts.{Counts, saturated, no_items, sequence, stmt_counts}
 use Rattle.strc_rate.specs.Counts.{stmts_counts}
 use Rattle.strc_rate.specs.Counts.{expr_counts, arguments_counts, option_counts, variables_counts}

@@ -5,15 +5,15 @@ use Rattle.std.proofs.Common.{arith, length-append}
 use Rattle.std.specs.Prelude.{if◌then◌else◌}
 use Rattle.std.specs.Option.{IfSome}
 use Rattle.std.proofs.lemmas.List.{length-map}
-use Rattle.strc_syntax.specs.Tree as tree
-use Rattle.strc_syntax.specs.declared.tree.BinaryOperator.{BinaryOperator}
-use Rattle.strc_syntax.specs.declared.tree.BinaryOperator.TheVariants as binary
-use Rattle.strc_semantics.specs.Arithmetic.{is_true}
-use Rattle.strc_semantics.specs.Constants.{decides}
-use Rattle.strc_interval.specs.Constant.{constant}
-use Rattle.strc_interval.specs.Loops.{Loop, counted_loop}
-use Rattle.strc_interval.specs.Intervals.{Intervals, intervals_after, names_of, with_interval}
-use Rattle.strc_interval.specs.Intervals.{turns_interval}
+use Rattle.strc_parse_tree.specs.Tree as tree
+use Rattle.strc_parse_tree.specs.declared.tree.BinaryOperator.{BinaryOperator}
+use Rattle.strc_parse_tree.specs.declared.tree.BinaryOperator.TheVariants as binary
+use Rattle.strc_work_meaning.specs.Arithmetic.{is_true}
+use Rattle.strc_work_meaning.specs.Constants.{decides}
+use Rattle.strc_rate_intervals.specs.Constant.{constant}
+use Rattle.strc_rate_intervals.specs.Loops.{Loop, counted_loop}
+use Rattle.strc_rate_intervals.specs.Intervals.{Intervals, intervals_after, names_of, with_interval}
+use Rattle.strc_rate_intervals.specs.Intervals.{turns_interval}
 use Rattle.strc_rate.specs.Counts.{Need, need_by, need_of, expr_counts, option_counts, stmt_counts}
 use Rattle.strc_rate.specs.Entries.{peeks_of_expr, peeks_of_option, peeks_of_variables}
 use Rattle.strc_rate.specs.Entries.{peeks_of_stmt, peeks_of, peeks_of_arguments}

@@ -4,13 +4,14 @@ use Rattle.std.proofs.Common.{arith}
 use Rattle.std.specs.Prelude.{is_some}
 use Rattle.std.proofs.lemmas.List.{length-map, length-take-le}
 use Rattle.std.proofs.lemmas.Result.{IfOk-weaker}
-use Rattle.strc_syntax.specs.Tree as tree
-use Rattle.strc_semantics.specs.declared.body.Body.{Body}
-use Rattle.strc_semantics.specs.Scoping.{Scope}
-use Rattle.strc_semantics.specs.Filters.{sized_fields, body_block, body_rates, push_rate, pop_rate}
-use Rattle.strc_semantics.specs.Filters.{peek_rate, window_size}
+use Rattle.strc_parse_tree.specs.Tree as tree
+use Rattle.strc_work_meaning.specs.declared.body.Body.{Body}
+use Rattle.strc_work_meaning.specs.Scoping.{Scope}
+use Rattle.strc_work_meaning.specs.Filters.{sized_fields, body_block, body_rates, push_rate}
+use Rattle.strc_work_meaning.specs.Filters.{pop_rate}
+use Rattle.strc_work_meaning.specs.Filters.{peek_rate, window_size}
 use Rattle.strc_rate.proofs.Unreturned.{ArePlain}
-use Rattle.strc_semantics.specs.Firing.{Setting, Store, no_traffic, setting_of, store_at}
+use Rattle.strc_work_meaning.specs.Firing.{Setting, Store, no_traffic, setting_of, store_at}
 use Rattle.strc_rate.specs.Counts.{stmts_counts}
 use Rattle.strc_rate.specs.declared.counts.TheConstants.{COUNT_LIMIT}
 use Rattle.strc_rate.specs.Entries.{peeks_of}

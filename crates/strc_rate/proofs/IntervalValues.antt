@@ -10,22 +10,24 @@ use Rattle.std.specs.Int.Signed.{◌≤ℤ◌, ≤ℤ_refl}
 use Rattle.std.proofs.Math.IntN.{suc_ℤ-*ℤ, +ℤ_idr, +ℤ-suc_ℤ, *ℤ_comm}
 use Rattle.std.proofs.lemmas.Int.{ints, clamps, int_wrap_fits}
 use mir.Syntax.{w32}
-use Rattle.strc_base.specs.Results.{result_and_then}
-use Rattle.strc_syntax.specs.Tree as tree
-use Rattle.strc_syntax.specs.declared.tree.UnaryOperator.{UnaryOperator}
-use Rattle.strc_syntax.specs.declared.tree.UnaryOperator.TheVariants as unary
-use Rattle.strc_syntax.specs.declared.tree.BinaryOperator.{BinaryOperator}
-use Rattle.strc_syntax.specs.declared.tree.BinaryOperator.TheVariants as binary
-use Rattle.strc_semantics.specs.declared.fault.Cause.{Cause}
-use Rattle.strc_semantics.specs.Arithmetic.{wrapped, unary_value, binary_value}
-use Rattle.strc_semantics.specs.Firing.{Setting, Store, value_in, value_of, joined}
-use Rattle.strc_interval.specs.Constant.{constant}
-use Rattle.strc_interval.specs.Loops.{within_32_bits}
-use Rattle.strc_interval.specs.declared.interval.Interval.{Interval}
-use Rattle.strc_interval.specs.Intervals.{Intervals, interval_named, known}
-use Rattle.strc_interval.specs.Intervals.{interval_negated, intervals_added, intervals_subtracted}
-use Rattle.strc_interval.specs.Intervals.{intervals_multiplied, unary_interval, binary_interval}
-use Rattle.strc_interval.specs.Intervals.{singleton, or_else, interval_of}
+use Rattle.strc_lex_names.specs.Results.{result_and_then}
+use Rattle.strc_parse_tree.specs.Tree as tree
+use Rattle.strc_parse_tree.specs.declared.tree.UnaryOperator.{UnaryOperator}
+use Rattle.strc_parse_tree.specs.declared.tree.UnaryOperator.TheVariants as unary
+use Rattle.strc_parse_tree.specs.declared.tree.BinaryOperator.{BinaryOperator}
+use Rattle.strc_parse_tree.specs.declared.tree.BinaryOperator.TheVariants as binary
+use Rattle.strc_work_meaning.specs.declared.fault.Cause.{Cause}
+use Rattle.strc_work_meaning.specs.Arithmetic.{wrapped, unary_value, binary_value}
+use Rattle.strc_work_meaning.specs.Firing.{Setting, Store, value_in, value_of, joined}
+use Rattle.strc_rate_intervals.specs.Constant.{constant}
+use Rattle.strc_rate_intervals.specs.Loops.{within_32_bits}
+use Rattle.strc_rate_intervals.specs.declared.interval.Interval.{Interval}
+use Rattle.strc_rate_intervals.specs.Intervals.{Intervals, interval_named, known}
+use Rattle.strc_rate_intervals.specs.Intervals.{interval_negated, intervals_added}
+use Rattle.strc_rate_intervals.specs.Intervals.{intervals_subtracted}
+use Rattle.strc_rate_intervals.specs.Intervals.{intervals_multiplied, unary_interval}
+use Rattle.strc_rate_intervals.specs.Intervals.{binary_interval}
+use Rattle.strc_rate_intervals.specs.Intervals.{singleton, or_else, interval_of}
 use Rattle.strc_rate.proofs.LoopTurns.{fits_between, fits_above, fits_below, within_fits}
 use Rattle.strc_rate.proofs.LoopParts.{constant_done}
 

@@ -8,24 +8,26 @@ use Rattle.std.specs.Result.{IfOk}
 use Rattle.std.proofs.lemmas.List.{length-map}
 use Rattle.std.proofs.lemmas.Result.{IfOk-weaker}
 use Rattle.std.proofs.lemmas.Slice.Eq.{bytes_eq-Decides}
-use Rattle.strc_base.specs.Results.{result_and_then}
-use Rattle.strc_syntax.specs.Tree as tree
-use Rattle.strc_syntax.specs.declared.tree.AssignOperator.{AssignOperator}
-use Rattle.strc_syntax.specs.declared.tree.AssignOperator.TheVariants as assign
-use Rattle.strc_syntax.specs.declared.tree.BinaryOperator.{BinaryOperator}
-use Rattle.strc_syntax.specs.declared.tree.BinaryOperator.TheVariants as binary
-use Rattle.strc_semantics.specs.declared.fault.Cause.{Cause}
-use Rattle.strc_semantics.specs.Arithmetic.{is_true, binary_value}
-use Rattle.strc_semantics.specs.Scoping.{Scope, is_declared}
-use Rattle.strc_semantics.specs.Firing.{Setting, Traffic, Store, Variables, cells_named, with_cell}
-use Rattle.strc_semantics.specs.Firing.{popped_from, peeked_from, joined, value_of, assigned_value}
-use Rattle.strc_semantics.specs.Firing.{place_of, cell_in, cell_set, element_joined, element_set}
-use Rattle.strc_semantics.specs.Firing.{condition_value, arguments_given, values_of, fields_in}
-use Rattle.strc_semantics.specs.Firing.{after_call, Called, revalued}
-use Rattle.strc_semantics.proofs.Calls.{scope_of-after_call, length-after_call}
+use Rattle.strc_lex_names.specs.Results.{result_and_then}
+use Rattle.strc_parse_tree.specs.Tree as tree
+use Rattle.strc_parse_tree.specs.declared.tree.AssignOperator.{AssignOperator}
+use Rattle.strc_parse_tree.specs.declared.tree.AssignOperator.TheVariants as assign
+use Rattle.strc_parse_tree.specs.declared.tree.BinaryOperator.{BinaryOperator}
+use Rattle.strc_parse_tree.specs.declared.tree.BinaryOperator.TheVariants as binary
+use Rattle.strc_work_meaning.specs.declared.fault.Cause.{Cause}
+use Rattle.strc_work_meaning.specs.Arithmetic.{is_true, binary_value}
+use Rattle.strc_work_meaning.specs.Scoping.{Scope, is_declared}
+use Rattle.strc_work_meaning.specs.Firing.{Setting, Traffic, Store, Variables, cells_named}
+use Rattle.strc_work_meaning.specs.Firing.{with_cell}
+use Rattle.strc_work_meaning.specs.Firing.{popped_from, peeked_from, joined, value_of}
+use Rattle.strc_work_meaning.specs.Firing.{assigned_value}
+use Rattle.strc_work_meaning.specs.Firing.{place_of, cell_in, cell_set, element_joined, element_set}
+use Rattle.strc_work_meaning.specs.Firing.{condition_value, arguments_given, values_of, fields_in}
+use Rattle.strc_work_meaning.specs.Firing.{after_call, Called, revalued}
+use Rattle.strc_work_meaning.proofs.Calls.{scope_of-after_call, length-after_call}
 use Rattle.strc_rate.proofs.Scopes.{scope_of, scope_of-with_cell}
-use Rattle.strc_interval.specs.Loops.{expr_writes, exprs_write, option_writes}
-use Rattle.strc_interval.specs.Calls.{expr_calls_one, arguments_call_one, option_calls_one}
+use Rattle.strc_work_writes.specs.LocalWrites.{expr_writes, exprs_write, option_writes}
+use Rattle.strc_work_writes.specs.Calls.{expr_calls_one, arguments_call_one, option_calls_one}
 use Rattle.strc_rate.proofs.Results.{or_first, or_second, then_ok, any_ok, below, above, below_all}
 
 -- ---- the cells of a name after a write

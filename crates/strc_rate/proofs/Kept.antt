@@ -5,26 +5,29 @@ use Rattle.std.proofs.Common.{Some, None, Result, Ok, Err, ◌-◌, arith, subst
 use Rattle.std.proofs.Common.{append_assoc, append-nil, take-append-drop, length-drop}
 use Rattle.std.specs.Prelude.{is_some, bytes_eq, ◌==◌}
 use Rattle.std.specs.Result.{IfOk}
-use Rattle.strc_base.specs.Names.{has_name, plain_names}
-use Rattle.strc_base.specs.Results.{result_and_then}
-use Rattle.strc_syntax.specs.Tree as tree
-use Rattle.strc_semantics.specs.declared.body.Body.TheVariants as body
-use Rattle.strc_semantics.specs.declared.fault.Cause.{Cause}
-use Rattle.strc_semantics.specs.declared.fault.Cause.TheVariants.{Calls}
-use Rattle.strc_semantics.specs.Filters.{Filter, sized_fields, sized_all, field_names, work_block}
-use Rattle.strc_semantics.specs.Filters.{declared_names, prework_block, filter_prints}
-use Rattle.strc_semantics.specs.Filters.{Helper, helper_named}
-use Rattle.strc_semantics.specs.Scoping.{Scope, total, cells_of, answer_name, sized_parameters}
-use Rattle.strc_semantics.specs.Returns.{stmts_return}
-use Rattle.strc_semantics.specs.Firing.{Variables, Setting, Called, bound_onto, values_of, store_at}
-use Rattle.strc_semantics.specs.Firing.{stmts_done, setting_of, turned, call_limit, called, no_io}
-use Rattle.strc_semantics.specs.Firing.{helper_called, helper_store, call_ended}
-use Rattle.strc_interval.specs.Loops.{stmts_write}
-use Rattle.strc_interval.specs.Calls.{stmts_call_one}
-use Rattle.strc_interval.specs.Writers.{with_parameters}
-use Rattle.strc_interval.specs.Stateless.{write_one_of, not_shadowed, writes_field, is_stateless}
-use Rattle.strc_interval.specs.Stateless.{helper_writes_field, can_write, calls_writer}
-use Rattle.strc_interval.proofs.HelperLaws.{shown_unwritten, spared_block}
+use Rattle.strc_lex_names.specs.Names.{has_name, plain_names}
+use Rattle.strc_lex_names.specs.Results.{result_and_then}
+use Rattle.strc_parse_tree.specs.Tree as tree
+use Rattle.strc_work_meaning.specs.declared.body.Body.TheVariants as body
+use Rattle.strc_work_meaning.specs.declared.fault.Cause.{Cause}
+use Rattle.strc_work_meaning.specs.declared.fault.Cause.TheVariants.{Calls}
+use Rattle.strc_work_meaning.specs.Filters.{Filter, sized_fields, sized_all, field_names}
+use Rattle.strc_work_meaning.specs.Filters.{work_block}
+use Rattle.strc_work_meaning.specs.Filters.{declared_names, prework_block, filter_prints}
+use Rattle.strc_work_meaning.specs.Filters.{Helper, helper_named}
+use Rattle.strc_work_meaning.specs.Scoping.{Scope, total, cells_of, answer_name, sized_parameters}
+use Rattle.strc_work_meaning.specs.Returns.{stmts_return}
+use Rattle.strc_work_meaning.specs.Firing.{Variables, Setting, Called, bound_onto, values_of}
+use Rattle.strc_work_meaning.specs.Firing.{store_at}
+use Rattle.strc_work_meaning.specs.Firing.{stmts_done, setting_of, turned, call_limit, called}
+use Rattle.strc_work_meaning.specs.Firing.{no_io}
+use Rattle.strc_work_meaning.specs.Firing.{helper_called, helper_store, call_ended}
+use Rattle.strc_work_writes.specs.LocalWrites.{stmts_write}
+use Rattle.strc_work_writes.specs.Calls.{stmts_call_one}
+use Rattle.strc_work_writes.specs.Writers.{with_parameters}
+use Rattle.strc_work_writes.specs.Stateless.{write_one_of, not_shadowed, writes_field, is_stateless}
+use Rattle.strc_work_writes.specs.Stateless.{helper_writes_field, can_write, calls_writer}
+use Rattle.strc_work_writes.proofs.HelperLaws.{shown_unwritten, spared_block}
 use Rattle.strc_rate.proofs.Results.{or_first, or_second, and_first, and_second, then_ok}
 use Rattle.strc_rate.proofs.Keeping.{Covers}
 use Rattle.strc_rate.proofs.Unwritten.{turned_holds}

@@ -8,16 +8,16 @@ use Rattle.std.specs.Int.RustNames.{int_lt}
 use Rattle.std.proofs.lemmas.Bool.{eqb-true}
 use Rattle.std.proofs.lemmas.Int.{ints}
 use Rattle.std.proofs.lemmas.Result.{IfOk-weaker}
-use Rattle.strc_syntax.specs.Tree as tree
-use Rattle.strc_semantics.specs.declared.body.Body.{Body}
-use Rattle.strc_semantics.specs.declared.body.Body.TheVariants as body
-use Rattle.strc_semantics.specs.Scoping.{Scope}
-use Rattle.strc_semantics.specs.Filters.{Filter, sized_fields, work_block, work_rates}
-use Rattle.strc_semantics.specs.Filters.{prework_block, prework_rates, body_block, body_rates}
-use Rattle.strc_semantics.specs.Filters.{push_rate, pop_rate, item_count, window_size}
-use Rattle.strc_semantics.specs.Closed.{IsClosedFilter}
-use Rattle.strc_semantics.specs.Firing.{Setting, Store, Variables, stmts_done, no_traffic}
-use Rattle.strc_semantics.specs.Firing.{setting_of, store_at, bound_onto}
+use Rattle.strc_parse_tree.specs.Tree as tree
+use Rattle.strc_work_meaning.specs.declared.body.Body.{Body}
+use Rattle.strc_work_meaning.specs.declared.body.Body.TheVariants as body
+use Rattle.strc_work_meaning.specs.Scoping.{Scope}
+use Rattle.strc_work_meaning.specs.Filters.{Filter, sized_fields, work_block, work_rates}
+use Rattle.strc_work_meaning.specs.Filters.{prework_block, prework_rates, body_block, body_rates}
+use Rattle.strc_work_meaning.specs.Filters.{push_rate, pop_rate, item_count, window_size}
+use Rattle.strc_work_meaning.specs.Closed.{IsClosedFilter}
+use Rattle.strc_work_meaning.specs.Firing.{Setting, Store, Variables, stmts_done, no_traffic}
+use Rattle.strc_work_meaning.specs.Firing.{setting_of, store_at, bound_onto}
 use Rattle.strc_rate.proofs.Unreturned.{ArePlain, body_plain}
 use Rattle.strc_rate.specs.declared.rates.RateError.{RateError}
 use Rattle.strc_rate.specs.declared.rates.RateError.TheVariants.{RateLimit, RateMismatch}
@@ -26,7 +26,7 @@ use Rattle.strc_rate.specs.declared.counts.Counts.{Counts}
 use Rattle.strc_rate.specs.declared.sight.PeekBounds.{PeekBounds}
 use Rattle.strc_rate.specs.Counts.{stmts_counts}
 use Rattle.strc_rate.specs.Peeks.{body_sights}
-use Rattle.strc_base.specs.Results.{result_and_then}
+use Rattle.strc_lex_names.specs.Results.{result_and_then}
 use Rattle.strc_rate.specs.Rates.{BodyRates, FilterRates, within_limit, are_within_limit}
 use Rattle.strc_rate.specs.Rates.{same_rate, some_outside, accepted_rates}
 use Rattle.strc_rate.specs.Rates.{with_closed_peeks, counted, body_checked, work_lacks}

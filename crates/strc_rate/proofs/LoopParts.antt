@@ -6,31 +6,34 @@ use Rattle.std.specs.Prelude.{bytes_eq, unwrap_or, if◌then◌else◌}
 use Rattle.std.specs.Option.{IfSome, option_map}
 use Rattle.std.specs.Result.{IfOk}
 use Rattle.std.proofs.lemmas.List.{get_or-set_same}
-use Rattle.strc_base.specs.Results.{result_and_then}
-use Rattle.strc_syntax.specs.Tree as tree
-use Rattle.strc_syntax.specs.declared.tree.AssignOperator.{AssignOperator}
-use Rattle.strc_syntax.specs.declared.tree.AssignOperator.TheVariants as assign
-use Rattle.strc_syntax.specs.declared.tree.StepOperator.{StepOperator}
-use Rattle.strc_syntax.specs.declared.tree.StepOperator.TheVariants as step
-use Rattle.strc_syntax.specs.declared.tree.BinaryOperator.{BinaryOperator}
-use Rattle.strc_syntax.specs.declared.tree.BinaryOperator.TheVariants as binary
-use Rattle.strc_semantics.specs.declared.fault.Cause.{Cause}
-use Rattle.strc_semantics.specs.Arithmetic.{wrapped, truth, binary_value}
-use Rattle.strc_base.specs.Names.{has_name}
-use Rattle.strc_semantics.specs.Scoping.{Scope, size_named, size_of, cells_of, with_declared}
-use Rattle.strc_semantics.specs.Scoping.{names_after, is_declared}
-use Rattle.strc_semantics.specs.Constants.{constant_value, IsConstant}
-use Rattle.strc_semantics.specs.Closed.{FitsInitial, AreClosedVariables, IsClosedStmt}
-use Rattle.strc_semantics.specs.Firing.{Setting, Store, Variables, cells_named, with_cell, value_in}
-use Rattle.strc_semantics.specs.Firing.{assigned, value_of, value_stepped, assigned_value, joined}
-use Rattle.strc_semantics.specs.Firing.{inside, stmt_done}
-use Rattle.strc_semantics.proofs.ConstantValues.{constant_value_Ok}
+use Rattle.strc_lex_names.specs.Results.{result_and_then}
+use Rattle.strc_parse_tree.specs.Tree as tree
+use Rattle.strc_parse_tree.specs.declared.tree.AssignOperator.{AssignOperator}
+use Rattle.strc_parse_tree.specs.declared.tree.AssignOperator.TheVariants as assign
+use Rattle.strc_parse_tree.specs.declared.tree.StepOperator.{StepOperator}
+use Rattle.strc_parse_tree.specs.declared.tree.StepOperator.TheVariants as step
+use Rattle.strc_parse_tree.specs.declared.tree.BinaryOperator.{BinaryOperator}
+use Rattle.strc_parse_tree.specs.declared.tree.BinaryOperator.TheVariants as binary
+use Rattle.strc_work_meaning.specs.declared.fault.Cause.{Cause}
+use Rattle.strc_work_meaning.specs.Arithmetic.{wrapped, truth, binary_value}
+use Rattle.strc_lex_names.specs.Names.{has_name}
+use Rattle.strc_work_meaning.specs.Scoping.{Scope, size_named, size_of, cells_of, with_declared}
+use Rattle.strc_work_meaning.specs.Scoping.{names_after, is_declared}
+use Rattle.strc_work_meaning.specs.Constants.{constant_value, IsConstant}
+use Rattle.strc_work_meaning.specs.Closed.{FitsInitial, AreClosedVariables, IsClosedStmt}
+use Rattle.strc_work_meaning.specs.Firing.{Setting, Store, Variables, cells_named, with_cell}
+use Rattle.strc_work_meaning.specs.Firing.{value_in}
+use Rattle.strc_work_meaning.specs.Firing.{assigned, value_of, value_stepped, assigned_value}
+use Rattle.strc_work_meaning.specs.Firing.{joined}
+use Rattle.strc_work_meaning.specs.Firing.{inside, stmt_done}
+use Rattle.strc_work_meaning.proofs.ConstantValues.{constant_value_Ok}
 use Rattle.strc_rate.proofs.Scopes.{scope_of}
-use Rattle.strc_interval.specs.Constant.{is_constant, faultless, constant}
-use Rattle.strc_interval.specs.declared.loops.Bound.{Bound}
-use Rattle.strc_interval.specs.Loops.{Locals, with_locals, locals_after, is_order}
-use Rattle.strc_interval.specs.Loops.{is_variable, bound_of, step_move, moved_by, sum_move}
-use Rattle.strc_interval.specs.Loops.{assign_move, value_move, move_of}
+use Rattle.strc_rate_intervals.specs.Constant.{is_constant, faultless, constant}
+use Rattle.strc_rate_intervals.specs.declared.loops.Bound.{Bound}
+use Rattle.strc_rate_intervals.specs.Loops.{is_order}
+use Rattle.strc_work_writes.specs.LocalWrites.{Locals, with_locals, locals_after}
+use Rattle.strc_rate_intervals.specs.Loops.{is_variable, bound_of, step_move, moved_by, sum_move}
+use Rattle.strc_rate_intervals.specs.Loops.{assign_move, value_move, move_of}
 use Rattle.strc_rate.proofs.Results.{and_first, and_second, any_ok, ok_known, above, above_more}
 use Rattle.strc_rate.proofs.Keeping.{same_name, one_name}
 use Rattle.strc_rate.proofs.LoopTurns.{compares}

@@ -14,13 +14,14 @@ use Rattle.std.proofs.lemmas.Grind.{div_ceil_times}
 use Rattle.std.proofs.lemmas.Bool.Decides.{Decides-int_eq}
 use Rattle.std.proofs.lemmas.Int.{ints, int_wrap_fits, SFits-int_wrap}
 use mir.Syntax.{w32}
-use Rattle.strc_syntax.specs.declared.tree.BinaryOperator.{BinaryOperator}
-use Rattle.strc_syntax.specs.declared.tree.BinaryOperator.TheVariants as binary
-use Rattle.strc_semantics.specs.Arithmetic.{wrapped}
-use Rattle.strc_interval.specs.declared.loops.Bound.{Bound}
-use Rattle.strc_interval.specs.Loops.{First, Loop, is_order, distance, step_toward_bound}
-use Rattle.strc_interval.specs.Loops.{trip_count, within_32_bits, value_after, loop_within_i32}
-use Rattle.strc_interval.specs.Loops.{loop_of}
+use Rattle.strc_parse_tree.specs.declared.tree.BinaryOperator.{BinaryOperator}
+use Rattle.strc_parse_tree.specs.declared.tree.BinaryOperator.TheVariants as binary
+use Rattle.strc_work_meaning.specs.Arithmetic.{wrapped}
+use Rattle.strc_rate_intervals.specs.declared.loops.Bound.{Bound}
+use Rattle.strc_rate_intervals.specs.Loops.{First, Loop, is_order, distance, step_toward_bound}
+use Rattle.strc_rate_intervals.specs.Loops.{trip_count, within_32_bits, value_after}
+use Rattle.strc_rate_intervals.specs.Loops.{loop_within_i32}
+use Rattle.strc_rate_intervals.specs.Loops.{loop_of}
 
 -- whether a comparison holds
 abbrev pub compares : BinaryOperator → (value limit : ℤ) → Bool

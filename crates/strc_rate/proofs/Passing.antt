@@ -3,14 +3,15 @@ use Rattle.std.proofs.Common.{◌≡◌, refl, sym, ap, ◌∙◌, ℕ, ◌-◌,
 use Rattle.std.proofs.Common.{ℤ, drop, map, zero, suc, ◌<◌, Option, Some, append_assoc, subst}
 use Rattle.std.proofs.Common.{arith}
 use Rattle.std.proofs.lemmas.List.{append-nil}
-use Rattle.strc_syntax.specs.Tree as tree
-use Rattle.strc_base.specs.Names.{with_value}
-use Rattle.strc_interval.specs.Loops.{Loop, counted_loop}
-use Rattle.strc_interval.specs.declared.interval.Interval.{Interval}
-use Rattle.strc_interval.specs.Intervals.{Intervals, intervals_after, names_of, interval_named}
-use Rattle.strc_interval.specs.Intervals.{with_interval}
-use Rattle.strc_interval.proofs.IntervalGrowth.{drop_own, names_after, with_value_back}
-use Rattle.strc_interval.proofs.IntervalGrowth.{with_interval_is}
+use Rattle.strc_parse_tree.specs.Tree as tree
+use Rattle.strc_lex_names.specs.Names.{with_value}
+use Rattle.strc_rate_intervals.specs.Loops.{Loop, counted_loop}
+use Rattle.strc_rate_intervals.specs.declared.interval.Interval.{Interval}
+use Rattle.strc_rate_intervals.specs.Intervals.{Intervals, intervals_after, names_of}
+use Rattle.strc_rate_intervals.specs.Intervals.{interval_named}
+use Rattle.strc_rate_intervals.specs.Intervals.{with_interval}
+use Rattle.strc_rate_intervals.proofs.IntervalGrowth.{drop_own, names_after, with_value_back}
+use Rattle.strc_rate_intervals.proofs.IntervalGrowth.{with_interval_is}
 use Rattle.strc_rate.specs.Counts.{Counts, sequence, if_equal, require_zero, repeated}
 use Rattle.strc_rate.specs.Counts.{option_counts, stmt_counts, turns_counts}
 use Rattle.strc_rate.specs.Entries.{peeks_of_stmt}

@@ -5,8 +5,8 @@ use Rattle.std.specs.Option.{IfSome}
 use Rattle.std.specs.Result.{IfOk}
 use Rattle.std.proofs.lemmas.List.{length-map}
 use Rattle.std.proofs.lemmas.Result.{IfOk-weaker}
-use Rattle.strc_syntax.specs.Tree as tree
-use Rattle.strc_semantics.specs.Firing.{Setting, Store, no_traffic, stmts_done}
+use Rattle.strc_parse_tree.specs.Tree as tree
+use Rattle.strc_work_meaning.specs.Firing.{Setting, Store, no_traffic, stmts_done}
 use Rattle.strc_rate.specs.Counts.{Counts, saturated, stmts_counts}
 use Rattle.strc_rate.specs.Peeks.{none_popped, sight_of, stmts_sites}
 use Rattle.strc_rate.specs.Promises.{CountedItemsAreMoved, EachPeekHasAnEntry}

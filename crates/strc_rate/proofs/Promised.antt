@@ -1,6 +1,6 @@
 -- What is promised of a filter whose rates are checked is promised where `check` answers Ok.
 use Rattle.std.proofs.Common.{subst, Result, Ok, Err, IfOk}
-use Rattle.strc_semantics.specs.Filters.{Filter}
+use Rattle.strc_work_meaning.specs.Filters.{Filter}
 use Rattle.strc_rate.specs.Rates.{FilterRates, checked}
 use Rattle.strc_rate.specs.Verdicts.{IsVerdict, rates_view}
 use Rattle.strc_rate.specs.declared.rates.Rates.{Rates}

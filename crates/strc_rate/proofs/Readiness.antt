@@ -9,30 +9,33 @@ use Rattle.std.specs.Result.{IfOk}
 use Rattle.std.proofs.Math.Nat.{mul-le-mul_right}
 use Rattle.std.proofs.lemmas.List.{length-replicate}
 use Rattle.std.proofs.lemmas.Result.{IfOk-weaker}
-use Rattle.strc_syntax.specs.Tree as tree
-use Rattle.strc_syntax.specs.declared.tree.BinaryOperator.{BinaryOperator}
-use Rattle.strc_syntax.specs.declared.tree.BinaryOperator.TheVariants as binary
-use Rattle.strc_semantics.specs.Arithmetic.{is_true}
-use Rattle.strc_semantics.specs.Constants.{decides}
-use Rattle.strc_semantics.specs.Scoping.{Scope, is_declared, cells_of, with_declared, names_after}
-use Rattle.strc_semantics.specs.Closed.{FitsInitial}
+use Rattle.strc_parse_tree.specs.Tree as tree
+use Rattle.strc_parse_tree.specs.declared.tree.BinaryOperator.{BinaryOperator}
+use Rattle.strc_parse_tree.specs.declared.tree.BinaryOperator.TheVariants as binary
+use Rattle.strc_work_meaning.specs.Arithmetic.{is_true}
+use Rattle.strc_work_meaning.specs.Constants.{decides}
+use Rattle.strc_work_meaning.specs.Scoping.{Scope, is_declared, cells_of, with_declared}
+use Rattle.strc_work_meaning.specs.Scoping.{names_after}
+use Rattle.strc_work_meaning.specs.Closed.{FitsInitial}
 use Rattle.strc_rate.proofs.Unreturned.{IsPlain}
-use Rattle.strc_semantics.specs.Firing.{Setting, Traffic, Store, Variables, cells_named, value_in}
-use Rattle.strc_semantics.specs.Firing.{value_of, initial_cells, declared_in, condition_value}
-use Rattle.strc_semantics.specs.Firing.{inside, stmt_done}
+use Rattle.strc_work_meaning.specs.Firing.{Setting, Traffic, Store, Variables, cells_named}
+use Rattle.strc_work_meaning.specs.Firing.{value_in}
+use Rattle.strc_work_meaning.specs.Firing.{value_of, initial_cells, declared_in, condition_value}
+use Rattle.strc_work_meaning.specs.Firing.{inside, stmt_done}
 use Rattle.strc_rate.proofs.Scopes.{scope_of}
-use Rattle.strc_base.specs.Names.{has_name}
-use Rattle.strc_interval.specs.Constant.{constant}
-use Rattle.strc_interval.specs.Loops.{with_locals, locals_after, declares, shadows, expr_writes}
-use Rattle.strc_interval.specs.Loops.{option_writes, stmt_writes}
+use Rattle.strc_lex_names.specs.Names.{has_name}
+use Rattle.strc_rate_intervals.specs.Constant.{constant}
+use Rattle.strc_work_writes.specs.LocalWrites.{with_locals, locals_after, declares, shadows}
+use Rattle.strc_work_writes.specs.LocalWrites.{expr_writes}
+use Rattle.strc_work_writes.specs.LocalWrites.{option_writes, stmt_writes}
 use Rattle.strc_rate.specs.Counts.{Counts, saturated, no_items, same_counts, sequence, if_equal}
 use Rattle.strc_rate.specs.Counts.{require_zero, repeated, branch_counts, Need, needed, need_by}
 use Rattle.strc_rate.specs.Counts.{need_of, expr_counts, option_counts, stmt_counts}
-use Rattle.strc_interval.specs.declared.interval.Interval.{Interval}
-use Rattle.strc_interval.specs.Intervals.{Intervals, with_unknown, intervals_after}
-use Rattle.strc_interval.specs.Intervals.{interval_named}
+use Rattle.strc_rate_intervals.specs.declared.interval.Interval.{Interval}
+use Rattle.strc_rate_intervals.specs.Intervals.{Intervals, with_unknown, intervals_after}
+use Rattle.strc_rate_intervals.specs.Intervals.{interval_named}
 use Rattle.strc_rate.specs.Peeks.{PopInterval, pops_of, advance, in_turns}
-use Rattle.strc_interval.specs.Intervals.{names_of}
+use Rattle.strc_rate_intervals.specs.Intervals.{names_of}
 use Rattle.strc_rate.proofs.Results.{or_first, or_second, then_ok, both_ok, above, below_all}
 use Rattle.strc_rate.proofs.Results.{above_more}
 use Rattle.strc_rate.proofs.Keeping.{Same, same_refl, same_cells, value_same, whole_inner}

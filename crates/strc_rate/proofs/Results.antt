@@ -4,8 +4,8 @@ use Rattle.std.proofs.Common.{◌||◌, List, ◌∷◌, length, take, drop, map
 use Rattle.std.specs.Bool.{MatchBool}
 use Rattle.std.specs.Result.{IfOk}
 use Rattle.std.proofs.lemmas.List.{length-map, length-drop, drop-drop, drop-map}
-use Rattle.strc_base.specs.Results.{result_and_then}
-use Rattle.strc_semantics.specs.declared.fault.Cause.{Cause}
+use Rattle.strc_lex_names.specs.Results.{result_and_then}
+use Rattle.strc_work_meaning.specs.declared.fault.Cause.{Cause}
 
 pub or_first : (a b : Bool) → (a || b) ≡ false → a ≡ false
 or_first true b e = e

@@ -12,22 +12,24 @@ use Rattle.std.proofs.Math.Nat.{mul-le-mul_right}
 use Rattle.std.proofs.lemmas.Bool.{cases_lt}
 use Rattle.std.proofs.lemmas.Int.{ints}
 use Rattle.std.proofs.lemmas.Result.{IfOk-weaker}
-use Rattle.strc_base.specs.Results.{result_and_then}
-use Rattle.strc_syntax.specs.Tree as tree
-use Rattle.strc_semantics.specs.declared.fault.Cause.{Cause}
-use Rattle.strc_semantics.specs.Arithmetic.{is_true, truth}
-use Rattle.strc_semantics.specs.Scoping.{Scope, names_after}
+use Rattle.strc_lex_names.specs.Results.{result_and_then}
+use Rattle.strc_parse_tree.specs.Tree as tree
+use Rattle.strc_work_meaning.specs.declared.fault.Cause.{Cause}
+use Rattle.strc_work_meaning.specs.Arithmetic.{is_true, truth}
+use Rattle.strc_work_meaning.specs.Scoping.{Scope, names_after}
 use Rattle.strc_rate.proofs.Unreturned.{IsPlain}
-use Rattle.strc_semantics.specs.Firing.{Setting, Traffic, Store, value_in, condition_value, turned}
-use Rattle.strc_semantics.specs.Firing.{turn_limit, inside, stmt_done}
+use Rattle.strc_work_meaning.specs.Firing.{Setting, Traffic, Store, value_in, condition_value}
+use Rattle.strc_work_meaning.specs.Firing.{turned}
+use Rattle.strc_work_meaning.specs.Firing.{turn_limit, inside, stmt_done}
 use Rattle.strc_rate.proofs.Scopes.{scope_of}
-use Rattle.strc_interval.specs.Loops.{Locals, Loop, value_after, option_writes, stmt_writes}
+use Rattle.strc_rate_intervals.specs.Loops.{Loop, value_after}
+use Rattle.strc_work_writes.specs.LocalWrites.{Locals, option_writes, stmt_writes}
 use Rattle.strc_rate.specs.Counts.{Counts, repeated}
-use Rattle.strc_interval.specs.declared.interval.Interval.{Interval}
-use Rattle.strc_interval.specs.Intervals.{Intervals, interval_named, with_interval}
-use Rattle.strc_interval.specs.Intervals.{turns_interval}
+use Rattle.strc_rate_intervals.specs.declared.interval.Interval.{Interval}
+use Rattle.strc_rate_intervals.specs.Intervals.{Intervals, interval_named, with_interval}
+use Rattle.strc_rate_intervals.specs.Intervals.{turns_interval}
 use Rattle.strc_rate.specs.Peeks.{PopInterval, in_turns}
-use Rattle.strc_interval.specs.Intervals.{names_of}
+use Rattle.strc_rate_intervals.specs.Intervals.{names_of}
 use Rattle.strc_rate.specs.PeeksSafe.{LoopIsSafe}
 use Rattle.strc_rate.proofs.Results.{or_first, or_second, then_ok, both_ok, ok_known, match_by}
 use Rattle.strc_rate.proofs.Keeping.{same_name, Given, Same, same_cells}

@@ -6,29 +6,33 @@ use Rattle.std.specs.Prelude.{bytes_eq, is_some}
 use Rattle.std.specs.Option.{IfSome}
 use Rattle.std.specs.Result.{IfOk}
 use Rattle.std.proofs.lemmas.Result.{IfOk-weaker}
-use Rattle.strc_base.specs.Results.{result_and_then}
-use Rattle.strc_syntax.specs.Tree as tree
-use Rattle.strc_semantics.specs.Arithmetic.{is_true}
-use Rattle.strc_semantics.specs.Scoping.{Scope, cells_of, size_of, names_after}
-use Rattle.strc_semantics.specs.Closed.{AreClosedVariables}
-use Rattle.strc_semantics.specs.Firing.{Setting, Store, cells_named, value_of, initial_cells}
-use Rattle.strc_semantics.specs.Firing.{declared_in, condition_value, turn_limit, inside, stmt_done}
-use Rattle.strc_semantics.specs.Firing.{unless_returned, test_unless_returned}
+use Rattle.strc_lex_names.specs.Results.{result_and_then}
+use Rattle.strc_parse_tree.specs.Tree as tree
+use Rattle.strc_work_meaning.specs.Arithmetic.{is_true}
+use Rattle.strc_work_meaning.specs.Scoping.{Scope, cells_of, size_of, names_after}
+use Rattle.strc_work_meaning.specs.Closed.{AreClosedVariables}
+use Rattle.strc_work_meaning.specs.Firing.{Setting, Store, cells_named, value_of, initial_cells}
+use Rattle.strc_work_meaning.specs.Firing.{declared_in, condition_value, turn_limit, inside}
+use Rattle.strc_work_meaning.specs.Firing.{stmt_done}
+use Rattle.strc_work_meaning.specs.Firing.{unless_returned, test_unless_returned}
 use Rattle.strc_rate.proofs.Unreturned.{IsPlain, ArePlain, plain_sides, plain_parts, plain_then}
 use Rattle.strc_rate.proofs.Scopes.{scope_of}
-use Rattle.strc_interval.specs.Constant.{constant}
-use Rattle.strc_interval.specs.Loops.{Locals, Loop, locals_after, counted_loop, shadows}
-use Rattle.strc_interval.specs.Loops.{expr_writes, option_writes, variables_write, stmt_writes}
-use Rattle.strc_interval.specs.Loops.{stmts_write}
+use Rattle.strc_rate_intervals.specs.Constant.{constant}
+use Rattle.strc_rate_intervals.specs.Loops.{Loop, counted_loop}
+use Rattle.strc_work_writes.specs.LocalWrites.{Locals, locals_after, shadows}
+use Rattle.strc_work_writes.specs.LocalWrites.{expr_writes, option_writes, variables_write}
+use Rattle.strc_work_writes.specs.LocalWrites.{stmt_writes}
+use Rattle.strc_work_writes.specs.LocalWrites.{stmts_write}
 use Rattle.strc_rate.specs.Counts.{no_items, one_push, sequence, require_zero, repeated}
 use Rattle.strc_rate.specs.Counts.{branch_counts, expr_counts, option_counts, variables_counts}
 use Rattle.strc_rate.specs.Counts.{turns_counts, stmt_counts, stmts_counts}
-use Rattle.strc_interval.specs.Intervals.{Intervals, intervals_after, with_interval, turns_interval}
+use Rattle.strc_rate_intervals.specs.Intervals.{Intervals, intervals_after, with_interval}
+use Rattle.strc_rate_intervals.specs.Intervals.{turns_interval}
 use Rattle.strc_rate.specs.Entries.{peeks_of_expr, peeks_of_option, peeks_of_stmt}
 use Rattle.strc_rate.specs.Peeks.{PopInterval, advance, in_turns, sides_sites, turns_sites}
 use Rattle.strc_rate.specs.Peeks.{some_turns, expr_sites, option_sites, variables_sites}
 use Rattle.strc_rate.specs.Peeks.{stmt_sites, stmts_sites}
-use Rattle.strc_interval.specs.Intervals.{names_of}
+use Rattle.strc_rate_intervals.specs.Intervals.{names_of}
 use Rattle.strc_rate.specs.PeeksSafe.{ExprIsSafe, OptionIsSafe, VariablesAreSafe, LoopIsSafe}
 use Rattle.strc_rate.specs.PeeksSafe.{StmtIsSafe, StmtsAreSafe}
 use Rattle.strc_rate.proofs.Results.{or_first, or_second, then_ok, both_ok, any_ok, match_by}

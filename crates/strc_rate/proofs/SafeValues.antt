@@ -11,17 +11,17 @@ use Rattle.std.specs.Int.RustNames.{int_lt}
 use Rattle.std.specs.Int.Signed.{◌≤ℤ◌, ◌<ℤ◌}
 use Rattle.std.proofs.lemmas.Int.{ints}
 use Rattle.std.proofs.lemmas.Result.{IfOk-weaker}
-use Rattle.strc_syntax.specs.Tree as tree
-use Rattle.strc_semantics.specs.Arithmetic.{is_true}
-use Rattle.strc_semantics.specs.Constants.{decides}
-use Rattle.strc_semantics.specs.Firing.{Port, Setting, Store, item_ahead, value_of}
-use Rattle.strc_interval.specs.Constant.{constant}
-use Rattle.strc_interval.specs.Loops.{expr_writes, exprs_write}
+use Rattle.strc_parse_tree.specs.Tree as tree
+use Rattle.strc_work_meaning.specs.Arithmetic.{is_true}
+use Rattle.strc_work_meaning.specs.Constants.{decides}
+use Rattle.strc_work_meaning.specs.Firing.{Port, Setting, Store, item_ahead, value_of}
+use Rattle.strc_rate_intervals.specs.Constant.{constant}
+use Rattle.strc_work_writes.specs.LocalWrites.{expr_writes, exprs_write}
 use Rattle.strc_rate.specs.Counts.{saturated, branch_counts, needed, need_of, expr_counts}
 use Rattle.strc_rate.specs.Counts.{arguments_counts}
 use Rattle.strc_rate.specs.declared.counts.TheConstants.{COUNT_LIMIT}
-use Rattle.strc_interval.specs.declared.interval.Interval.{Interval}
-use Rattle.strc_interval.specs.Intervals.{Intervals, interval_of}
+use Rattle.strc_rate_intervals.specs.declared.interval.Interval.{Interval}
+use Rattle.strc_rate_intervals.specs.Intervals.{Intervals, interval_of}
 use Rattle.strc_rate.specs.Peeks.{Closed, Outside, Open, PopInterval, pops_of, advance, sight_at}
 use Rattle.strc_rate.specs.Peeks.{Reached, is_closed, sides_sites, right_sites, expr_sites}
 use Rattle.strc_rate.specs.Peeks.{arguments_sites}

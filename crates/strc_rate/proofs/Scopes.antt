@@ -3,8 +3,8 @@ use Rattle.std.proofs.Common.{◌≡◌, refl, ap, ℕ, Bool, true, false, cond,
 use Rattle.std.proofs.Common.{map, set}
 use Rattle.std.specs.Prelude.{bytes_eq}
 use Rattle.std.proofs.lemmas.List.{length-set}
-use Rattle.strc_semantics.specs.Scoping.{Scope}
-use Rattle.strc_semantics.specs.Firing.{Variables, with_cell}
+use Rattle.strc_work_meaning.specs.Scoping.{Scope}
+use Rattle.strc_work_meaning.specs.Firing.{Variables, with_cell}
 
 -- the variables with the numbers of their cells
 abbrev pub scope_of : Variables → Scope

@@ -1,11 +1,11 @@
 -- What is known of peeks, one part after the other.
 use Rattle.std.proofs.Common.{◌≡◌, List, ◌∷◌, ◌++◌, Option, None, sym, ap, ◌∙◌, append_assoc}
-use Rattle.strc_syntax.specs.Tree as tree
+use Rattle.strc_parse_tree.specs.Tree as tree
 use Rattle.strc_rate.specs.Counts.{Counts, expr_counts, option_counts, stmt_counts}
-use Rattle.strc_interval.specs.Intervals.{Intervals, intervals_after}
+use Rattle.strc_rate_intervals.specs.Intervals.{Intervals, intervals_after}
 use Rattle.strc_rate.specs.Peeks.{PeekSite, PopInterval, advance, option_sites, variables_sites}
 use Rattle.strc_rate.specs.Peeks.{expr_sites, arguments_sites, stmt_sites, stmts_sites}
-use Rattle.strc_interval.specs.Intervals.{names_of}
+use Rattle.strc_rate_intervals.specs.Intervals.{names_of}
 
 -- one more statement after those so far
 pub stmts_seen : (so_far next whole : List PeekSite) (intervals inner : Intervals)

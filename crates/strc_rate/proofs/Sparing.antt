@@ -6,22 +6,23 @@ use Rattle.std.proofs.Common.{Result, Ok}
 use Rattle.std.specs.Prelude.{bytes_eq}
 use Rattle.std.specs.Result.{IfOk}
 use Rattle.std.proofs.lemmas.Result.{IfOk-weaker}
-use Rattle.strc_base.specs.Names.{has_name, plain_names}
-use Rattle.strc_base.specs.Results.{result_and_then}
-use Rattle.strc_syntax.specs.Tree as tree
-use Rattle.strc_semantics.specs.declared.fault.Cause.{Cause}
-use Rattle.strc_semantics.specs.Arithmetic.{is_true}
-use Rattle.strc_semantics.specs.Scoping.{answer_name, cells_of}
-use Rattle.strc_semantics.specs.Returns.{stmt_returns, stmts_return}
-use Rattle.strc_semantics.specs.Firing.{Setting, Store, Variables, cell_set, declared_in, value_of}
-use Rattle.strc_semantics.specs.Firing.{initial_cells, variables_declared, condition_value}
-use Rattle.strc_semantics.specs.Firing.{pushed_to, turn_limit, looped, inside, has_returned}
-use Rattle.strc_semantics.specs.Firing.{unless_returned, test_unless_returned, returned}
-use Rattle.strc_semantics.specs.Firing.{stmt_done, stmts_done}
-use Rattle.strc_interval.specs.Loops.{shadows, expr_writes, option_writes, variables_write}
-use Rattle.strc_interval.specs.Loops.{stmt_writes, stmts_write, with_locals, locals_after}
-use Rattle.strc_interval.specs.Calls.{expr_calls_one, option_calls_one, variables_call_one}
-use Rattle.strc_interval.specs.Calls.{stmt_calls_one, stmts_call_one}
+use Rattle.strc_lex_names.specs.Names.{has_name, plain_names}
+use Rattle.strc_lex_names.specs.Results.{result_and_then}
+use Rattle.strc_parse_tree.specs.Tree as tree
+use Rattle.strc_work_meaning.specs.declared.fault.Cause.{Cause}
+use Rattle.strc_work_meaning.specs.Arithmetic.{is_true}
+use Rattle.strc_work_meaning.specs.Scoping.{answer_name, cells_of}
+use Rattle.strc_work_meaning.specs.Returns.{stmt_returns, stmts_return}
+use Rattle.strc_work_meaning.specs.Firing.{Setting, Store, Variables, cell_set, declared_in}
+use Rattle.strc_work_meaning.specs.Firing.{value_of}
+use Rattle.strc_work_meaning.specs.Firing.{initial_cells, variables_declared, condition_value}
+use Rattle.strc_work_meaning.specs.Firing.{pushed_to, turn_limit, looped, inside, has_returned}
+use Rattle.strc_work_meaning.specs.Firing.{unless_returned, test_unless_returned, returned}
+use Rattle.strc_work_meaning.specs.Firing.{stmt_done, stmts_done}
+use Rattle.strc_work_writes.specs.LocalWrites.{shadows, expr_writes, option_writes, variables_write}
+use Rattle.strc_work_writes.specs.LocalWrites.{stmt_writes, stmts_write, with_locals, locals_after}
+use Rattle.strc_work_writes.specs.Calls.{expr_calls_one, option_calls_one, variables_call_one}
+use Rattle.strc_work_writes.specs.Calls.{stmt_calls_one, stmts_call_one}
 use Rattle.strc_rate.proofs.Results.{or_first, or_second, then_ok, any_ok}
 use Rattle.strc_rate.proofs.Keeping.{Covers, Given, HoldingBut, same_name, one_holds, neither}
 use Rattle.strc_rate.proofs.Keeping.{value_holds_but, condition_holds_but, assigned_holds_but}

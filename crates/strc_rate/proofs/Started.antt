@@ -4,16 +4,16 @@ use Rattle.std.proofs.Common.{◌∷◌, length, length-append, reverse, Option,
 use Rattle.std.specs.Prelude.{replicate, IfOk}
 use Rattle.std.proofs.lemmas.List.{length-replicate}
 use Rattle.std.proofs.lemmas.Result.{IfOk-weaker}
-use Rattle.strc_syntax.specs.Tree as tree
-use Rattle.strc_semantics.specs.Filters.{sized_fields}
-use Rattle.strc_semantics.specs.Scoping.{Scope, total}
-use Rattle.strc_semantics.specs.Closed.{AreClosedMembers}
-use Rattle.strc_semantics.specs.Firing.{Setting, Store, Variables, values_of, value_of, store_at}
-use Rattle.strc_semantics.specs.Firing.{no_io}
-use Rattle.strc_semantics.specs.Firing.{initial_given, fields_started, members_started}
-use Rattle.strc_semantics.specs.Firing.{inits_done, inside, stmts_done, fields_in, setting_at}
-use Rattle.strc_semantics.proofs.Calls.{scope_of-after_call}
-use Rattle.strc_interval.specs.Loops.{stmts_write}
+use Rattle.strc_parse_tree.specs.Tree as tree
+use Rattle.strc_work_meaning.specs.Filters.{sized_fields}
+use Rattle.strc_work_meaning.specs.Scoping.{Scope, total}
+use Rattle.strc_work_meaning.specs.Closed.{AreClosedMembers}
+use Rattle.strc_work_meaning.specs.Firing.{Setting, Store, Variables, values_of, value_of, store_at}
+use Rattle.strc_work_meaning.specs.Firing.{no_io}
+use Rattle.strc_work_meaning.specs.Firing.{initial_given, fields_started, members_started}
+use Rattle.strc_work_meaning.specs.Firing.{inits_done, inside, stmts_done, fields_in, setting_at}
+use Rattle.strc_work_meaning.proofs.Calls.{scope_of-after_call}
+use Rattle.strc_work_writes.specs.LocalWrites.{stmts_write}
 use Rattle.strc_rate.proofs.Scopes.{scope_of, scope_of-with_cell}
 use Rattle.strc_rate.proofs.Results.{then_ok, any_ok}
 use Rattle.strc_rate.proofs.Keeping.{Holding, Same, value_holds}

@@ -5,18 +5,19 @@ use Rattle.std.proofs.Common.{arith}
 use Rattle.std.specs.Option.{IfSome}
 use Rattle.std.specs.Result.{IfOk}
 use Rattle.std.proofs.lemmas.Result.{IfOk-weaker}
-use Rattle.strc_base.specs.Results.{result_and_then}
-use Rattle.strc_syntax.specs.Tree as tree
-use Rattle.strc_semantics.specs.declared.fault.Cause.{Cause}
-use Rattle.strc_semantics.specs.Arithmetic.{is_true}
-use Rattle.strc_semantics.specs.Scoping.{Scope, cells_of, size_of, names_after, is_declared}
-use Rattle.strc_semantics.specs.Firing.{Setting, Traffic, Store, cells_named, value_in, value_of}
-use Rattle.strc_semantics.specs.Firing.{condition_value, pushed_to, turn_limit, looped, inside}
-use Rattle.strc_semantics.specs.Firing.{stmt_done, stmts_done}
+use Rattle.strc_lex_names.specs.Results.{result_and_then}
+use Rattle.strc_parse_tree.specs.Tree as tree
+use Rattle.strc_work_meaning.specs.declared.fault.Cause.{Cause}
+use Rattle.strc_work_meaning.specs.Arithmetic.{is_true}
+use Rattle.strc_work_meaning.specs.Scoping.{Scope, cells_of, size_of, names_after, is_declared}
+use Rattle.strc_work_meaning.specs.Firing.{Setting, Traffic, Store, cells_named, value_in, value_of}
+use Rattle.strc_work_meaning.specs.Firing.{condition_value, pushed_to, turn_limit, looped, inside}
+use Rattle.strc_work_meaning.specs.Firing.{stmt_done, stmts_done}
 use Rattle.strc_rate.proofs.Scopes.{scope_of}
-use Rattle.strc_interval.specs.Constant.{constant}
-use Rattle.strc_interval.specs.Loops.{Locals, locals_after, Loop, counted_loop, value_after}
-use Rattle.strc_interval.specs.Loops.{stmt_writes, expr_writes}
+use Rattle.strc_rate_intervals.specs.Constant.{constant}
+use Rattle.strc_rate_intervals.specs.Loops.{Loop, counted_loop, value_after}
+use Rattle.strc_work_writes.specs.LocalWrites.{Locals, locals_after}
+use Rattle.strc_work_writes.specs.LocalWrites.{stmt_writes, expr_writes}
 use Rattle.strc_rate.specs.Counts.{Counts, no_items, one_push, added, sequence, require_zero}
 use Rattle.strc_rate.specs.Counts.{repeated, branch_counts, expr_counts, option_counts}
 use Rattle.strc_rate.specs.Counts.{turns_counts, stmt_counts, stmts_counts}

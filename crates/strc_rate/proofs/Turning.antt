@@ -4,14 +4,14 @@ use Rattle.std.proofs.Common.{◌≡◌, refl, sym, ap, ◌∙◌, ℕ, zero, su
 use Rattle.std.proofs.Common.{false, cond, List, [], ◌∷◌, ◌++◌, map, Option, Some, None, arith}
 use Rattle.std.specs.Prelude.{bytes_eq, if◌then◌else◌}
 use Rattle.std.proofs.lemmas.List.{map-append}
-use Rattle.strc_syntax.specs.Tree as tree
-use Rattle.strc_base.specs.Names.{with_value}
-use Rattle.strc_semantics.specs.Arithmetic.{is_true}
-use Rattle.strc_interval.specs.Constant.{constant}
-use Rattle.strc_interval.specs.Loops.{Loop, counted_loop}
-use Rattle.strc_interval.specs.declared.interval.Interval.{Interval}
-use Rattle.strc_interval.specs.Intervals.{Intervals, intervals_after, names_of, with_interval}
-use Rattle.strc_interval.specs.Intervals.{turns_interval, interval_of}
+use Rattle.strc_parse_tree.specs.Tree as tree
+use Rattle.strc_lex_names.specs.Names.{with_value}
+use Rattle.strc_work_meaning.specs.Arithmetic.{is_true}
+use Rattle.strc_rate_intervals.specs.Constant.{constant}
+use Rattle.strc_rate_intervals.specs.Loops.{Loop, counted_loop}
+use Rattle.strc_rate_intervals.specs.declared.interval.Interval.{Interval}
+use Rattle.strc_rate_intervals.specs.Intervals.{Intervals, intervals_after, names_of, with_interval}
+use Rattle.strc_rate_intervals.specs.Intervals.{turns_interval, interval_of}
 use Rattle.strc_rate.specs.Counts.{Counts, saturated, Need, need_of, expr_counts, option_counts}
 use Rattle.strc_rate.specs.Counts.{stmt_counts}
 use Rattle.strc_rate.specs.Entries.{peeks_of_expr, peeks_of_stmt}

@@ -1,7 +1,7 @@
 -- Entries of peeks to which no run comes, one part after the other.
 use Rattle.std.proofs.Common.{◌≡◌, sym, ap, ◌∙◌, List, ◌∷◌, ◌++◌, append_assoc}
 use Rattle.std.proofs.lemmas.List.{map-append}
-use Rattle.strc_syntax.specs.Tree as tree
+use Rattle.strc_parse_tree.specs.Tree as tree
 use Rattle.strc_rate.specs.Entries.{peeks_of_expr, peeks_of_arguments, peeks_of_option}
 use Rattle.strc_rate.specs.Entries.{peeks_of_variables, peeks_of_stmt, peeks_of}
 use Rattle.strc_rate.specs.Peeks.{PeekSite, NoRun, unreached}

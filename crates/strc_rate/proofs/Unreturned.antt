@@ -1,17 +1,17 @@
 -- Statements in which no `return` stands, and what they do: one part after the other.
 use Rattle.std.proofs.Common.{◌≡◌, sym, subst, suc, false, List, Option}
 use Rattle.std.specs.Result.{IfOk}
-use Rattle.strc_base.specs.Results.{result_and_then}
-use Rattle.strc_syntax.specs.Tree as tree
-use Rattle.strc_semantics.specs.declared.body.Body.{Body}
-use Rattle.strc_semantics.specs.Filters.{body_block}
-use Rattle.strc_semantics.specs.Scoping.{Scope, names_after}
-use Rattle.strc_semantics.specs.Closed.{IsClosedStmt, AreClosed, AreClosedMembers}
-use Rattle.strc_semantics.specs.Returns.{stmt_returns, stmts_return}
-use Rattle.strc_semantics.specs.Firing.{Setting, Store, value_of, condition_value, turn_limit}
-use Rattle.strc_semantics.specs.Firing.{looped, inside, unless_returned, test_unless_returned}
-use Rattle.strc_semantics.specs.Firing.{stmt_done, stmts_done}
-use Rattle.strc_code.proofs.ClosedBodies.{body_kept}
+use Rattle.strc_lex_names.specs.Results.{result_and_then}
+use Rattle.strc_parse_tree.specs.Tree as tree
+use Rattle.strc_work_meaning.specs.declared.body.Body.{Body}
+use Rattle.strc_work_meaning.specs.Filters.{body_block}
+use Rattle.strc_work_meaning.specs.Scoping.{Scope, names_after}
+use Rattle.strc_work_meaning.specs.Closed.{IsClosedStmt, AreClosed, AreClosedMembers}
+use Rattle.strc_work_meaning.specs.Returns.{stmt_returns, stmts_return}
+use Rattle.strc_work_meaning.specs.Firing.{Setting, Store, value_of, condition_value, turn_limit}
+use Rattle.strc_work_meaning.specs.Firing.{looped, inside, unless_returned, test_unless_returned}
+use Rattle.strc_work_meaning.specs.Firing.{stmt_done, stmts_done}
+use Rattle.strc_work_code.proofs.ClosedBodies.{body_kept}
 use Rattle.strc_rate.proofs.Results.{or_first, or_second}
 
 -- a statement of known names in which no `return` stands

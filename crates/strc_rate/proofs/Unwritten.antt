@@ -8,21 +8,22 @@ use Rattle.std.specs.Prelude.{bytes_eq, nat_lt}
 use Rattle.std.specs.Result.{IfOk}
 use Rattle.std.proofs.lemmas.Result.{IfOk-weaker}
 use Rattle.std.proofs.lemmas.List.{length-map, length-replicate}
-use Rattle.strc_base.specs.Results.{result_and_then}
-use Rattle.strc_syntax.specs.Tree as tree
-use Rattle.strc_semantics.specs.declared.fault.Cause.{Cause}
-use Rattle.strc_semantics.specs.declared.fault.Cause.TheVariants.{Turns}
-use Rattle.strc_semantics.specs.Arithmetic.{is_true}
-use Rattle.strc_semantics.specs.Scoping.{Scope, is_declared, cells_of, with_declared, names_after}
-use Rattle.strc_semantics.specs.Closed.{FitsInitial, AreClosedVariables}
-use Rattle.strc_semantics.specs.Firing.{Setting, Store, Variables, cells_named, declared_in}
-use Rattle.strc_semantics.specs.Firing.{value_of}
-use Rattle.strc_semantics.specs.Firing.{initial_cells, variables_declared, condition_value}
-use Rattle.strc_semantics.specs.Firing.{pushed_to, turned, turn_limit, looped, inside, stmt_done}
-use Rattle.strc_semantics.specs.Firing.{stmts_done}
+use Rattle.strc_lex_names.specs.Results.{result_and_then}
+use Rattle.strc_parse_tree.specs.Tree as tree
+use Rattle.strc_work_meaning.specs.declared.fault.Cause.{Cause}
+use Rattle.strc_work_meaning.specs.declared.fault.Cause.TheVariants.{Turns}
+use Rattle.strc_work_meaning.specs.Arithmetic.{is_true}
+use Rattle.strc_work_meaning.specs.Scoping.{Scope, is_declared, cells_of, with_declared}
+use Rattle.strc_work_meaning.specs.Scoping.{names_after}
+use Rattle.strc_work_meaning.specs.Closed.{FitsInitial, AreClosedVariables}
+use Rattle.strc_work_meaning.specs.Firing.{Setting, Store, Variables, cells_named, declared_in}
+use Rattle.strc_work_meaning.specs.Firing.{value_of}
+use Rattle.strc_work_meaning.specs.Firing.{initial_cells, variables_declared, condition_value}
+use Rattle.strc_work_meaning.specs.Firing.{pushed_to, turned, turn_limit, looped, inside, stmt_done}
+use Rattle.strc_work_meaning.specs.Firing.{stmts_done}
 use Rattle.strc_rate.proofs.Scopes.{scope_of}
-use Rattle.strc_interval.specs.Loops.{declares, shadows, expr_writes, option_writes}
-use Rattle.strc_interval.specs.Loops.{variables_write, stmt_writes, stmts_write}
+use Rattle.strc_work_writes.specs.LocalWrites.{declares, shadows, expr_writes, option_writes}
+use Rattle.strc_work_writes.specs.LocalWrites.{variables_write, stmt_writes, stmts_write}
 use Rattle.strc_rate.proofs.Results.{or_first, or_second, then_ok, any_ok, below, above}
 use Rattle.strc_rate.proofs.Results.{below_below, below_map, below_all, below_more, above_more}
 use Rattle.strc_rate.proofs.Keeping.{Unwritten, Covers, Given, IsInner, Same, same_size, same_refl}

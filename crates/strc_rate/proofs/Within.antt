@@ -7,12 +7,12 @@ use Rattle.std.specs.Result.{IfOk}
 use Rattle.std.proofs.Math.Seq.{drop-append_seam, take-append_seam}
 use Rattle.std.proofs.lemmas.List.{drop-append-le, length-map, drop-map}
 use Rattle.std.proofs.lemmas.Result.{IfOk-weaker}
-use Rattle.strc_base.specs.Names.{has_name, plain_names}
-use Rattle.strc_syntax.specs.Tree as tree
-use Rattle.strc_semantics.specs.Firing.{Variables, Store, Setting, Called, with_cell, values_of}
-use Rattle.strc_semantics.specs.Firing.{fields_in, locals_in, refilled, revalued, after_call}
-use Rattle.strc_semantics.specs.Firing.{block_left}
-use Rattle.strc_interval.specs.Loops.{declares, shadows, with_locals, locals_after}
+use Rattle.strc_lex_names.specs.Names.{has_name, plain_names}
+use Rattle.strc_parse_tree.specs.Tree as tree
+use Rattle.strc_work_meaning.specs.Firing.{Variables, Store, Setting, Called, with_cell, values_of}
+use Rattle.strc_work_meaning.specs.Firing.{fields_in, locals_in, refilled, revalued, after_call}
+use Rattle.strc_work_meaning.specs.Firing.{block_left}
+use Rattle.strc_work_writes.specs.LocalWrites.{declares, shadows, with_locals, locals_after}
 use Rattle.strc_rate.proofs.Results.{or_first, or_second}
 use Rattle.strc_rate.proofs.Keeping.{Covers, HoldingBut, one_name, neither}
 

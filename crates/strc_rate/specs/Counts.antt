@@ -4,13 +4,14 @@
 use Rattle.std.specs.Prelude.{ℕ, ◌+◌, ◌*◌, min, zero, suc, ℤ, Bool, ◌&&◌, nat_eq, List, [], ◌∷◌}
 use Rattle.std.specs.Prelude.{Option, Some, None, if◌then◌else◌}
 use Rattle.std.specs.Option.{option_and_then, option_map}
-use Rattle.strc_syntax.specs.Tree as tree
-use Rattle.strc_syntax.specs.declared.tree.BinaryOperator.{BinaryOperator}
-use Rattle.strc_syntax.specs.declared.tree.BinaryOperator.TheVariants as binary
-use Rattle.strc_semantics.specs.Arithmetic.{is_true}
-use Rattle.strc_semantics.specs.Constants.{decides}
-use Rattle.strc_interval.specs.Constant.{constant}
-use Rattle.strc_interval.specs.Loops.{Locals, locals_after, Loop, counted_loop}
+use Rattle.strc_parse_tree.specs.Tree as tree
+use Rattle.strc_parse_tree.specs.declared.tree.BinaryOperator.{BinaryOperator}
+use Rattle.strc_parse_tree.specs.declared.tree.BinaryOperator.TheVariants as binary
+use Rattle.strc_work_meaning.specs.Arithmetic.{is_true}
+use Rattle.strc_work_meaning.specs.Constants.{decides}
+use Rattle.strc_rate_intervals.specs.Constant.{constant}
+use Rattle.strc_rate_intervals.specs.Loops.{Loop, counted_loop}
+use Rattle.strc_work_writes.specs.LocalWrites.{Locals, locals_after}
 use Rattle.strc_rate.specs.declared.counts.TheConstants.{COUNT_LIMIT}
 -- when an operator's right side is evaluated
 pub use Rattle.strc_rate.specs.declared.counts.Need.{Need}

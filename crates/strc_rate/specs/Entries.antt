@@ -1,6 +1,6 @@
 -- The peeks of a text in its order: a peek is named by its number among them.
 use Rattle.std.specs.Prelude.{List, [], ◌∷◌, ◌++◌, Option, Some, None}
-use Rattle.strc_syntax.specs.Tree as tree
+use Rattle.strc_parse_tree.specs.Tree as tree
 
 abbrev mutual
   -- the indices of the peeks of an expression; a peek comes after those in its index

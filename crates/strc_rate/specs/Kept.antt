@@ -1,11 +1,11 @@
 -- What the counted rates of a filter promise of its firings.
 use Rattle.std.specs.Prelude.{◌≡◌, ℤ, List, length, Result, IfOk}
-use Rattle.strc_semantics.specs.declared.body.Body.{Body}
-use Rattle.strc_semantics.specs.declared.fault.Cause.{Cause}
-use Rattle.strc_semantics.specs.Filters.{Filter, body_block, body_rates, push_rate, pop_rate}
-use Rattle.strc_semantics.specs.Filters.{item_count}
-use Rattle.strc_semantics.specs.Closed.{IsClosedFilter}
-use Rattle.strc_semantics.specs.Firing.{Store, stmts_done, setting_of, store_at}
+use Rattle.strc_work_meaning.specs.declared.body.Body.{Body}
+use Rattle.strc_work_meaning.specs.declared.fault.Cause.{Cause}
+use Rattle.strc_work_meaning.specs.Filters.{Filter, body_block, body_rates, push_rate, pop_rate}
+use Rattle.strc_work_meaning.specs.Filters.{item_count}
+use Rattle.strc_work_meaning.specs.Closed.{IsClosedFilter}
+use Rattle.strc_work_meaning.specs.Firing.{Store, stmts_done, setting_of, store_at}
 use Rattle.strc_rate.specs.Rates.{checked}
 
 -- a body's text, run from these values of the fields before this window

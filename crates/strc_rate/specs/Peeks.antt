@@ -3,16 +3,16 @@ use Rattle.std.specs.Prelude.{ℕ, ◌+◌, ◌*◌, ◌-◌, zero, suc, ℤ, po
 use Rattle.std.specs.Prelude.{◌&&◌, ◌||◌, List, [], ◌∷◌, ◌++◌, Option, Some, None, if◌then◌else◌}
 use Rattle.std.specs.Prelude.{map}
 use Rattle.std.specs.Int.RustNames.{int_lt}
-use Rattle.strc_syntax.specs.Tree as tree
-use Rattle.strc_semantics.specs.Arithmetic.{is_true}
-use Rattle.strc_interval.specs.Constant.{constant}
-use Rattle.strc_interval.specs.Loops.{Loop, counted_loop}
+use Rattle.strc_parse_tree.specs.Tree as tree
+use Rattle.strc_work_meaning.specs.Arithmetic.{is_true}
+use Rattle.strc_rate_intervals.specs.Constant.{constant}
+use Rattle.strc_rate_intervals.specs.Loops.{Loop, counted_loop}
 use Rattle.strc_rate.specs.Counts.{Counts, saturated, Need, Never, need_of, expr_counts}
 use Rattle.strc_rate.specs.Counts.{option_counts, stmt_counts}
 use Rattle.strc_rate.specs.Entries.{peeks_of_expr, peeks_of_stmt}
-use Rattle.strc_interval.specs.declared.interval.Interval.{Interval}
-use Rattle.strc_interval.specs.Intervals.{Intervals, intervals_after, interval_of}
-use Rattle.strc_interval.specs.Intervals.{with_interval, turns_interval, names_of}
+use Rattle.strc_rate_intervals.specs.declared.interval.Interval.{Interval}
+use Rattle.strc_rate_intervals.specs.Intervals.{Intervals, intervals_after, interval_of}
+use Rattle.strc_rate_intervals.specs.Intervals.{with_interval, turns_interval, names_of}
 -- between how many items a firing has popped when it comes to a place of its text, saturated as
 -- counts are
 pub use Rattle.strc_rate.specs.declared.sight.PopInterval.{PopInterval}

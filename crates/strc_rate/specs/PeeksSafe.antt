@@ -4,16 +4,16 @@
 use Rattle.std.specs.Prelude.{◌≡◌, ℕ, zero, suc, ◌+◌, ℤ, Bool, true, false, List, [], ◌∷◌, length}
 use Rattle.std.specs.Prelude.{get_or, Option, Some, None, Result, IfOk, IsSome}
 use Rattle.std.specs.Bool.{MatchBool}
-use Rattle.strc_base.specs.Results.{result_and_then}
-use Rattle.strc_syntax.specs.Tree as tree
-use Rattle.strc_semantics.specs.declared.fault.Cause.{Cause}
-use Rattle.strc_semantics.specs.Arithmetic.{is_true}
-use Rattle.strc_semantics.specs.Constants.{decides}
-use Rattle.strc_semantics.specs.Scoping.{cells_of}
-use Rattle.strc_semantics.specs.Returns.{stmt_returns}
-use Rattle.strc_semantics.specs.Firing.{Setting, Store, item_ahead, value_of, initial_cells}
-use Rattle.strc_semantics.specs.Firing.{declared_in, condition_value, turned, turn_limit, inside}
-use Rattle.strc_semantics.specs.Firing.{stmt_done, unless_returned, test_unless_returned}
+use Rattle.strc_lex_names.specs.Results.{result_and_then}
+use Rattle.strc_parse_tree.specs.Tree as tree
+use Rattle.strc_work_meaning.specs.declared.fault.Cause.{Cause}
+use Rattle.strc_work_meaning.specs.Arithmetic.{is_true}
+use Rattle.strc_work_meaning.specs.Constants.{decides}
+use Rattle.strc_work_meaning.specs.Scoping.{cells_of}
+use Rattle.strc_work_meaning.specs.Returns.{stmt_returns}
+use Rattle.strc_work_meaning.specs.Firing.{Setting, Store, item_ahead, value_of, initial_cells}
+use Rattle.strc_work_meaning.specs.Firing.{declared_in, condition_value, turned, turn_limit, inside}
+use Rattle.strc_work_meaning.specs.Firing.{stmt_done, unless_returned, test_unless_returned}
 use Rattle.strc_rate.specs.Entries.{peeks_of_expr, peeks_of_option, peeks_of_stmt}
 
 -- the item of a peek whose entry is closed is in the window, where the index has a value

@@ -1,10 +1,10 @@
 -- What is known of a text, as laws about all its runs.
 use Rattle.std.specs.Prelude.{◌≡◌, ℕ, ◌<◌, ◌≤◌, true, false, [], length, map, IfOk, IfSome, is_some}
-use Rattle.strc_syntax.specs.Tree as tree
-use Rattle.strc_semantics.specs.Scoping.{Scope}
-use Rattle.strc_semantics.specs.Closed.{AreClosed}
-use Rattle.strc_semantics.specs.Returns.{stmts_return}
-use Rattle.strc_semantics.specs.Firing.{Setting, Store, no_traffic, stmts_done}
+use Rattle.strc_parse_tree.specs.Tree as tree
+use Rattle.strc_work_meaning.specs.Scoping.{Scope}
+use Rattle.strc_work_meaning.specs.Closed.{AreClosed}
+use Rattle.strc_work_meaning.specs.Returns.{stmts_return}
+use Rattle.strc_work_meaning.specs.Firing.{Setting, Store, no_traffic, stmts_done}
 use Rattle.strc_rate.specs.Counts.{saturated, stmts_counts}
 use Rattle.strc_rate.specs.declared.counts.TheConstants.{COUNT_LIMIT}
 use Rattle.strc_rate.specs.Entries.{peeks_of}

@@ -2,19 +2,20 @@
 use Rattle.std.specs.Prelude.{ℕ, ℤ, pos, Bool, true, false, not, ◌&&◌, ◌||◌, nat_eq, List, [], ◌∷◌}
 use Rattle.std.specs.Prelude.{map, Option, Some, None, Result, Ok, Err, if◌then◌else◌}
 use Rattle.std.specs.Int.RustNames.{int_lt}
-use Rattle.strc_base.specs.Results.{result_and_then}
-use Rattle.strc_syntax.specs.Tree as tree
-use Rattle.strc_syntax.specs.declared.tree.ItemType.{ItemType}
-use Rattle.strc_syntax.specs.declared.tree.ItemType.TheVariants as item
-use Rattle.strc_semantics.specs.Filters.{Filter, work_block, work_rates, prework_block}
-use Rattle.strc_semantics.specs.Filters.{prework_rates, push_rate, pop_rate, peek_rate, item_count}
-use Rattle.strc_semantics.specs.Filters.{window_size}
+use Rattle.strc_lex_names.specs.Results.{result_and_then}
+use Rattle.strc_parse_tree.specs.Tree as tree
+use Rattle.strc_parse_tree.specs.declared.tree.ItemType.{ItemType}
+use Rattle.strc_parse_tree.specs.declared.tree.ItemType.TheVariants as item
+use Rattle.strc_work_meaning.specs.Filters.{Filter, work_block, work_rates, prework_block}
+use Rattle.strc_work_meaning.specs.Filters.{prework_rates, push_rate, pop_rate, peek_rate}
+use Rattle.strc_work_meaning.specs.Filters.{item_count}
+use Rattle.strc_work_meaning.specs.Filters.{window_size}
 use Rattle.strc_rate.specs.declared.counts.Counts.{Counts}
 use Rattle.strc_rate.specs.declared.sight.PeekBounds.{PeekBounds}
 use Rattle.strc_rate.specs.declared.sight.PeekBounds.TheVariants.{Outside}
 use Rattle.strc_rate.specs.Counts.{stmts_counts}
 use Rattle.strc_rate.specs.Peeks.{is_closed, body_sights}
-use Rattle.strc_code.specs.declared.code.TheConstants.{RATE_LIMIT}
+use Rattle.strc_work_code.specs.declared.code.TheConstants.{RATE_LIMIT}
 use Rattle.strc_rate.specs.declared.rates.RateError.{RateError}
 use Rattle.strc_rate.specs.declared.rates.RateError.TheVariants.{RateLimit, RateUnknown}
 use Rattle.strc_rate.specs.declared.rates.RateError.TheVariants.{RateMismatch, PeekOutside}

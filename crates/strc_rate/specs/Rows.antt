@@ -1,13 +1,13 @@
 -- Worked rows: filters with a field x and an array of fields a, with one work or more, and with
 -- helper functions.
 use Rattle.std.specs.Prelude.{◌≡◌, ℕ, pos, true, false, List, [], ◌∷◌, Some, None}
-use Rattle.strc_syntax.specs.Tree as tree
-use Rattle.strc_syntax.specs.declared.tree.ItemType.TheVariants as item
-use Rattle.strc_syntax.specs.declared.tree.HelperType.TheVariants as gives
-use Rattle.strc_syntax.specs.declared.tree.AssignOperator.TheVariants as assign
-use Rattle.strc_syntax.specs.declared.tree.StepOperator.TheVariants as step
-use Rattle.strc_semantics.specs.Filters.{Filter}
-use Rattle.strc_interval.specs.Stateless.{is_stateless}
+use Rattle.strc_parse_tree.specs.Tree as tree
+use Rattle.strc_parse_tree.specs.declared.tree.ItemType.TheVariants as item
+use Rattle.strc_parse_tree.specs.declared.tree.HelperType.TheVariants as gives
+use Rattle.strc_parse_tree.specs.declared.tree.AssignOperator.TheVariants as assign
+use Rattle.strc_parse_tree.specs.declared.tree.StepOperator.TheVariants as step
+use Rattle.strc_work_meaning.specs.Filters.{Filter}
+use Rattle.strc_work_writes.specs.Stateless.{is_stateless}
 
 -- the bytes of `x` and of `a`
 abbrev pub x : List ℕ

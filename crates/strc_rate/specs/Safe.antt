@@ -1,10 +1,10 @@
 -- What is known of the peeks of a filter, and what its closed peeks promise of its firings.
 use Rattle.std.specs.Prelude.{◌≡◌, ◌≤◌, ℤ, List, length, unwrap_or, IfOk}
-use Rattle.strc_semantics.specs.declared.body.Body.{Body}
-use Rattle.strc_semantics.specs.declared.body.Body.TheVariants as body
-use Rattle.strc_semantics.specs.Filters.{Filter, body_block, body_rates, window_size}
-use Rattle.strc_semantics.specs.Closed.{IsClosedFilter}
-use Rattle.strc_semantics.specs.Firing.{setting_of, store_at}
+use Rattle.strc_work_meaning.specs.declared.body.Body.{Body}
+use Rattle.strc_work_meaning.specs.declared.body.Body.TheVariants as body
+use Rattle.strc_work_meaning.specs.Filters.{Filter, body_block, body_rates, window_size}
+use Rattle.strc_work_meaning.specs.Closed.{IsClosedFilter}
+use Rattle.strc_work_meaning.specs.Firing.{setting_of, store_at}
 use Rattle.strc_rate.specs.Entries.{peeks_of}
 use Rattle.strc_rate.specs.PeeksSafe.{StmtsAreSafe}
 use Rattle.strc_rate.specs.Rates.{BodyRates, FilterRates, checked}

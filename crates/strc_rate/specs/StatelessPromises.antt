@@ -1,11 +1,11 @@
 -- What a filter without state promises of its firings, and what each filter starts with.
 use Rattle.std.specs.Prelude.{◌≡◌, ℤ, true, List, length, IfOk}
-use Rattle.strc_semantics.specs.declared.body.Body.TheVariants as body
-use Rattle.strc_semantics.specs.Filters.{Filter, sized_fields}
-use Rattle.strc_semantics.specs.Scoping.{total}
-use Rattle.strc_semantics.specs.Closed.{IsClosedFilter}
-use Rattle.strc_semantics.specs.Firing.{started, fired}
-use Rattle.strc_interval.specs.Stateless.{is_stateless}
+use Rattle.strc_work_meaning.specs.declared.body.Body.TheVariants as body
+use Rattle.strc_work_meaning.specs.Filters.{Filter, sized_fields}
+use Rattle.strc_work_meaning.specs.Scoping.{total}
+use Rattle.strc_work_meaning.specs.Closed.{IsClosedFilter}
+use Rattle.strc_work_meaning.specs.Firing.{started, fired}
+use Rattle.strc_work_writes.specs.Stateless.{is_stateless}
 
 -- each firing of a filter of known names without a fault leaves the fields as they were, whatever
 -- their values: one for each cell

@@ -1,9 +1,10 @@
 -- What the number of turns of a counted loop promises of its runs.
 use Rattle.std.specs.Prelude.{◌≡◌, ℕ, ◌<◌, true, false, Option, IfSome, Ok}
-use Rattle.strc_syntax.specs.Tree as tree
-use Rattle.strc_semantics.specs.Arithmetic.{truth}
-use Rattle.strc_semantics.specs.Firing.{Setting, Store, value_in, condition_value}
-use Rattle.strc_interval.specs.Loops.{Locals, value_after, counted_loop}
+use Rattle.strc_parse_tree.specs.Tree as tree
+use Rattle.strc_work_meaning.specs.Arithmetic.{truth}
+use Rattle.strc_work_meaning.specs.Firing.{Setting, Store, value_in, condition_value}
+use Rattle.strc_rate_intervals.specs.Loops.{value_after, counted_loop}
+use Rattle.strc_work_writes.specs.LocalWrites.{Locals}
 
 -- in each turn of a counted loop, where its variable has moved so many times from its first value,
 -- the condition holds; after the last turn it doesn't

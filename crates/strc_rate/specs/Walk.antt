@@ -1,9 +1,9 @@
 -- What the walk over a part of a text gives, where there is memory for its sites.
 use Rattle.std.specs.Prelude.{◌≡◌, List, ◌++◌, Option}
-use Rattle.strc_syntax.specs.Tree as tree
-use Rattle.strc_interval.specs.Loops.{Loop}
-use Rattle.strc_interval.specs.Intervals.{Intervals, intervals_after, with_unknown, names_of}
-use Rattle.strc_interval.specs.Intervals.{with_interval, turns_interval}
+use Rattle.strc_parse_tree.specs.Tree as tree
+use Rattle.strc_rate_intervals.specs.Loops.{Loop}
+use Rattle.strc_rate_intervals.specs.Intervals.{Intervals, intervals_after, with_unknown, names_of}
+use Rattle.strc_rate_intervals.specs.Intervals.{with_interval, turns_interval}
 use Rattle.strc_rate.specs.Counts.{Counts, Need, needed, sequence, expr_counts, option_counts}
 use Rattle.strc_rate.specs.Counts.{arguments_counts, variables_counts, stmt_counts, stmts_counts}
 use Rattle.strc_rate.specs.Counts.{turns_counts}

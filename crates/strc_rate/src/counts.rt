@@ -1,11 +1,11 @@
 // How many items a part of a text pushes and pops.
 
 ghost use Rattle.std.specs.Prelude.{◌≡◌, ◌+◌, ◌*◌};
-ghost use Rattle.strc_syntax.specs.View.{expr_view};
+ghost use Rattle.strc_parse_tree.specs.View.{expr_view};
 ghost use Rattle.strc_rate.specs.Counts as spec;
 
-use strc_interval::constant::constant;
-use strc_syntax::tree::{BinaryOperator, Expr};
+use strc_parse_tree::tree::{BinaryOperator, Expr};
+use strc_rate_intervals::constant::constant;
 
 /// From here on a count is saturated.
 pub const COUNT_LIMIT: u32 = 65537;

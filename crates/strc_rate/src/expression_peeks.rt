@@ -3,8 +3,8 @@
 
 ghost use Rattle.std.specs.Prelude.{IfOk};
 ghost use Rattle.std.specs.Option.{option_map};
-ghost use Rattle.strc_syntax.specs.Tree as tree;
-ghost use Rattle.strc_syntax.specs.View.{expr_view, listed_view};
+ghost use Rattle.strc_parse_tree.specs.Tree as tree;
+ghost use Rattle.strc_parse_tree.specs.View.{expr_view, listed_view};
 ghost use Rattle.strc_rate.specs.Counts.{needed, branch_counts, expr_counts};
 ghost use Rattle.strc_rate.specs.Entries.{peeks_of_expr};
 ghost use Rattle.strc_rate.specs.Peeks.{expr_sites, right_sites, sides_sites};
@@ -13,12 +13,12 @@ ghost use Rattle.strc_rate.specs.Walk.{ArgumentsArePassed};
 
 use crate::counts::{Counts, Need, if_equal, need_of, no_items, one_pop, require_zero, sequence};
 use crate::sight::{PeekSite, PopInterval, advance};
-use crate::unreached::skip_expression;
-use strc_base::memory::NoMemory;
-use strc_interval::constant::constant;
-use strc_interval::interval_scope::IntervalScope;
-use strc_interval::intervals::interval_of;
-use strc_syntax::tree::Expr;
+use crate::unreachable_peeks::skip_expression;
+use strc_lex_names::memory::NoMemory;
+use strc_parse_tree::tree::Expr;
+use strc_rate_intervals::constant::constant;
+use strc_rate_intervals::interval_scope::IntervalScope;
+use strc_rate_intervals::intervals::interval_of;
 
 /// Adds a site for each peek of an expression, in order of the text, and gives its counts.
 #[cycle(expression)]

@@ -4,8 +4,8 @@
 // The theorems to rely on: `check`: Ok exactly where the counted rates are the declared ones and
 // each peek is possible, and then each firing keeps the rates; `body_peeks`: counts and bounds are
 // so in each run; `stateless_keeps_fields`.
-// Stands on strc_code, whose trees these are, and on strc_interval, which says what numbers
-// expressions can have and what a text writes.
+// Stands on strc_work_code, whose trees these are, and on strc_rate_intervals, which says what
+// numbers expressions can have and what a text writes.
 #![tactic(auto)]
 
 pub mod counts;
@@ -17,4 +17,4 @@ pub mod rates;
 pub mod sight;
 pub mod stateless;
 pub mod stateless_laws;
-mod unreached;
+mod unreachable_peeks;

@@ -4,8 +4,8 @@
 
 ghost use Rattle.std.specs.Prelude.{◌≡◌, [], IfOk, IfSome, None, Some, map};
 ghost use Rattle.std.specs.Option.{option_map};
-ghost use Rattle.strc_syntax.specs.Tree as tree;
-ghost use Rattle.strc_syntax.specs.View.{expr_view, variable_view, stmt_view, block_view};
+ghost use Rattle.strc_parse_tree.specs.Tree as tree;
+ghost use Rattle.strc_parse_tree.specs.View.{expr_view, variable_view, stmt_view, block_view};
 ghost use Rattle.strc_rate.specs.Counts as counting;
 ghost use Rattle.strc_rate.specs.Counts.{branch_counts, repeated, stmt_counts};
 ghost use Rattle.strc_rate.specs.Entries.{peeks_of_stmt};
@@ -13,9 +13,9 @@ ghost use Rattle.strc_rate.specs.Peeks as spec;
 ghost use Rattle.strc_rate.specs.Peeks.{sides_sites, stmt_sites};
 ghost use Rattle.strc_rate.specs.Walk.{IsPassed, VariablesArePassed, StmtIsPassed, InnerIsPassed};
 ghost use Rattle.strc_rate.specs.Walk.{BlockIsPassed, TurnsArePassed};
-ghost use Rattle.strc_interval.specs.Intervals.{names_of};
-ghost use Rattle.strc_interval.specs.Intervals.{with_interval, turns_interval};
-ghost use Rattle.strc_interval.specs.Seen.{loop_view};
+ghost use Rattle.strc_rate_intervals.specs.Intervals.{names_of};
+ghost use Rattle.strc_rate_intervals.specs.Intervals.{with_interval, turns_interval};
+ghost use Rattle.strc_rate_intervals.specs.Seen.{loop_view};
 
 use crate::counts::{Counts, Need, if_equal, no_items, one_push, repeated, require_zero, sequence};
 use crate::expression_peeks::{
@@ -24,13 +24,13 @@ use crate::expression_peeks::{
 use crate::sight::{
     PeekBounds, PeekSite, PopInterval, add_in_turns, advance, none_popped, sights_of,
 };
-use crate::unreached::skip_statement;
+use crate::unreachable_peeks::skip_statement;
 use std::alloc::Global;
-use strc_base::memory::NoMemory;
-use strc_interval::constant::constant;
-use strc_interval::interval_scope::IntervalScope;
-use strc_interval::loops::{CountedLoop, counted_loop};
-use strc_syntax::tree::{Expr, Stmt, Variable};
+use strc_lex_names::memory::NoMemory;
+use strc_parse_tree::tree::{Expr, Stmt, Variable};
+use strc_rate_intervals::constant::constant;
+use strc_rate_intervals::interval_scope::IntervalScope;
+use strc_rate_intervals::loops::{CountedLoop, counted_loop};
 
 /// What is known of a body.
 #[derive(Drop)]

@@ -2,8 +2,8 @@
 
 ghost use Rattle.std.specs.Prelude.{◌≡◌, ◌&&◌, IfOk, map};
 ghost use Rattle.std.specs.Option.{option_map};
-ghost use Rattle.strc_semantics.specs.Filters as filters;
-ghost use Rattle.strc_semantics.specs.Filters.{filter_of};
+ghost use Rattle.strc_work_meaning.specs.Filters as filters;
+ghost use Rattle.strc_work_meaning.specs.Filters.{filter_of};
 ghost use Rattle.strc_rate.specs.Rates as spec;
 ghost use Rattle.strc_rate.specs.Kept.{KeepsRates};
 ghost use Rattle.strc_rate.specs.Peeks as peeks;
@@ -13,10 +13,10 @@ ghost use Rattle.strc_rate.specs.Verdicts.{IsVerdict, body_view, rates_view};
 use crate::peeks::body_peeks;
 use crate::sight::{PeekBounds, is_closed};
 use std::alloc::{AllocError, AllocFailed, Global};
-use strc_base::memory::NoMemory;
-use strc_code::code::{Code, DeclaredRates, RATE_LIMIT};
-use strc_semantics::body::Body;
-use strc_syntax::tree::ItemType;
+use strc_lex_names::memory::NoMemory;
+use strc_parse_tree::tree::ItemType;
+use strc_work_code::code::{Code, DeclaredRates, RATE_LIMIT};
+use strc_work_meaning::body::Body;
 use thiserror::Error;
 
 /// What a firing of a body pushes and pops, and what is known of its peeks.

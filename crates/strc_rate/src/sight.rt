@@ -7,8 +7,8 @@ ghost use Rattle.strc_rate.specs.Peeks as spec;
 
 use crate::counts::{Counts, saturating_product, saturating_sum};
 use std::alloc::Global;
-use strc_base::memory::NoMemory;
-use strc_interval::interval::Interval;
+use strc_lex_names::memory::NoMemory;
+use strc_rate_intervals::interval::Interval;
 
 /// Between how many items a firing has popped when it comes to a place of its text, saturated as
 /// counts are.

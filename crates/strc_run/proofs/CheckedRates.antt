@@ -4,7 +4,7 @@ use Rattle.std.specs.Prelude.{if◌then◌else◌, ◌||◌, Option}
 use Rattle.strc_rate.specs.Rates.{BodyRates, FilterRates, then_work}
 use Rattle.strc_rate.specs.declared.rates.RateError.{RateError}
 use Rattle.strc_rate.specs.declared.rates.RateError.TheVariants.{RateLimit}
-use Rattle.strc_refusal.specs.declared.refusal.Refusal.{Refusal}
+use Rattle.strc_run_refusal.specs.declared.refusal.Refusal.{Refusal}
 use Rattle.strc_run.specs.Rates.{filter_checked, then_check}
 
 pub neither : (a b : Bool) → (a || b) ≡ false → (a ≡ false) × (b ≡ false)

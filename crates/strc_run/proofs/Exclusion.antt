@@ -1,13 +1,13 @@
 -- No text is both accepted and refused, or accepted with two streams.
 use Rattle.std.proofs.Common.{◌≡◌, ℕ, List, length, map, Option, Result, Ok, Err, ap, ◌∙◌, sym}
 use Rattle.std.proofs.Common.{subst, arith, inl, inr}
-use Rattle.strc_syntax.specs.Tree.{Declaration}
+use Rattle.strc_parse_tree.specs.Tree.{Declaration}
 use Rattle.strc_parse.specs.Texts.{Spells, SpellsOneProgram, SpelledTextsAreReadable}
 use Rattle.strc_elab.specs.Elaboration.{elaborated}
-use Rattle.strc_stream.specs.Flattening.{nodes_of, outer_loops, IsFlat}
-use Rattle.strc_stream.specs.Instances.{Stream}
-use Rattle.strc_stream.specs.OneGraph.{HasOneGraph}
-use Rattle.strc_graph.specs.Graphs.{Channel, Graph, NodeCode}
+use Rattle.strc_elab_stream.specs.Flattening.{nodes_of, outer_loops, IsFlat}
+use Rattle.strc_elab_stream.specs.Instances.{Stream}
+use Rattle.strc_elab_stream.specs.OneGraph.{HasOneGraph}
+use Rattle.strc_elab_graph.specs.Graphs.{Channel, Graph, NodeCode}
 use Rattle.strc_balance.specs.Balance.{count_at}
 use Rattle.strc_balance.specs.Rates.{equation_of}
 use Rattle.strc_balance.specs.Verdicts.{judged}
@@ -15,15 +15,15 @@ use Rattle.strc_balance.specs.declared.error.BalanceError.{BalanceError}
 use Rattle.strc_balance.specs.declared.error.BalanceError.TheVariants as unbalanced
 use Rattle.strc_startup.specs.Rates.{first_count, first_counts, rates_of, rates_of_channel}
 use Rattle.strc_startup.specs.Startup.{IsLeast}
-use Rattle.strc_schedule.specs.Schedules.{ScheduleParts, IsSchedule}
-use Rattle.strc_statements.specs.declared.error.ElabError.{ElabError}
+use Rattle.strc_sched_orders.specs.Schedules.{ScheduleParts, IsSchedule}
+use Rattle.strc_elab_statements.specs.declared.error.ElabError.{ElabError}
 use Rattle.strc_fiss.specs.Fissions.{IsTransformed}
 use Rattle.strc_fiss.specs.Ways.{fission_of}
-use Rattle.strc_stage.specs.Refusals.{PassesNoLimit, TransformedOrRefused}
-use Rattle.strc_stage.specs.Laws.{OneStartup, ScheduledOrRefused}
-use Rattle.strc_stage.specs.Plans.{HasSchedule, HasStartup, PlanParts, graph_of}
-use Rattle.strc_refusal.specs.declared.refusal.Refusal.{Refusal}
-use Rattle.strc_refusal.specs.declared.refusal.Refusal.TheVariants as refusal
+use Rattle.strc_stage_plan.specs.Refusals.{PassesNoLimit, TransformedOrRefused}
+use Rattle.strc_stage_plan.specs.Laws.{OneStartup, ScheduledOrRefused}
+use Rattle.strc_stage_plan.specs.Plans.{HasSchedule, HasStartup, PlanParts, graph_of}
+use Rattle.strc_run_refusal.specs.declared.refusal.Refusal.{Refusal}
+use Rattle.strc_run_refusal.specs.declared.refusal.Refusal.TheVariants as refusal
 use Rattle.strc_run.specs.Accepts.{Accepts, CanRun, round_counts}
 use Rattle.strc_run.specs.Choices.{Choice}
 use Rattle.strc_run.specs.Laws.{AcceptedOrRefused, OneStream}

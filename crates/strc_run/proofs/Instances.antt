@@ -1,16 +1,16 @@
 -- An instance of a filter starts.
 use Rattle.std.proofs.Common.{◌≡◌, refl, sym, ap, ◌∙◌, ℕ, ℤ, List, Result, Ok, Err}
 use Rattle.std.specs.Prelude.{Option}
-use Rattle.strc_base.specs.Results.{result_and_then}
-use Rattle.strc_semantics.specs.Filters as filters
-use Rattle.strc_semantics.specs.Firing.{started}
-use Rattle.strc_semantics.specs.declared.fault.Cause.{Cause}
-use Rattle.strc_check.specs.Resolution.{filter_resolved}
-use Rattle.strc_check.specs.declared.error.LowerError.{LowerError}
-use Rattle.strc_statements.specs.Statements.{ruled}
+use Rattle.strc_lex_names.specs.Results.{result_and_then}
+use Rattle.strc_work_meaning.specs.Filters as filters
+use Rattle.strc_work_meaning.specs.Firing.{started}
+use Rattle.strc_work_meaning.specs.declared.fault.Cause.{Cause}
+use Rattle.strc_work_rules.specs.Resolution.{filter_resolved}
+use Rattle.strc_work_rules.specs.declared.error.LowerError.{LowerError}
+use Rattle.strc_elab_statements.specs.Statements.{ruled}
 use Rattle.strc_elab.specs.Elaboration.{started_as}
 use Rattle.strc_elab.specs.Sound.{IsInstance}
-use Rattle.strc_graph.specs.Graphs as graphs
+use Rattle.strc_elab_graph.specs.Graphs as graphs
 
 -- the values that a filter's fields start from
 abbrev pub Starts : filters.Filter → Type 0

@@ -4,25 +4,25 @@ use Rattle.std.proofs.Common.{IfSome, Result, Ok, Err, IfErr}
 use Rattle.std.specs.Prelude.{is_some}
 use Rattle.std.specs.Option.{option_map}
 use Rattle.std.specs.Result.{IsErrAnd}
-use Rattle.strc_base.specs.declared.place.Span.{Span}
-use Rattle.strc_syntax.specs.declared.tree.Program.{Program}
-use Rattle.strc_check.specs.declared.site.Site.{Site}
-use Rattle.strc_statements.specs.Answers.{IsRefusal}
-use Rattle.strc_statements.specs.declared.error.ElabError.{ElabError}
-use Rattle.strc_statements.specs.declared.error.ElabErrorKind.TheVariants as error
+use Rattle.strc_lex_names.specs.declared.place.Span.{Span}
+use Rattle.strc_parse_tree.specs.declared.tree.Program.{Program}
+use Rattle.strc_work_rules.specs.declared.site.Site.{Site}
+use Rattle.strc_elab_statements.specs.Answers.{IsRefusal}
+use Rattle.strc_elab_statements.specs.declared.error.ElabError.{ElabError}
+use Rattle.strc_elab_statements.specs.declared.error.ElabErrorKind.TheVariants as error
 use Rattle.strc_elab.specs.Answering.{IsPlaceOf}
-use Rattle.strc_graph.specs.NodeView.{GraphParts, graph_view}
-use Rattle.strc_flatten.specs.Verdicts.{IsRefused}
-use Rattle.strc_stream.specs.Connections.{IsConnected}
-use Rattle.strc_stream.specs.Flattening.{codes_of, meaning_of, IsFlat}
-use Rattle.strc_stream.specs.Instances.{Stream}
-use Rattle.strc_stream.specs.View.{stream_view}
-use Rattle.strc_stream.specs.declared.stream.Stream as declared
-use Rattle.strc_refusal.specs.Placing.{placed_at, unplaced}
-use Rattle.strc_refusal.specs.Reports.{refusal_of}
-use Rattle.strc_refusal.specs.declared.placed.PlacedRefusal.{PlacedRefusal}
-use Rattle.strc_refusal.specs.declared.refusal.Refusal.{Refusal}
-use Rattle.strc_refusal.specs.declared.refusal.Refusal.TheVariants as refusal
+use Rattle.strc_elab_graph.specs.NodeView.{GraphParts, graph_view}
+use Rattle.strc_elab_flattening.specs.Verdicts.{IsRefused}
+use Rattle.strc_elab_stream.specs.Connections.{IsConnected}
+use Rattle.strc_elab_stream.specs.Flattening.{codes_of, meaning_of, IsFlat}
+use Rattle.strc_elab_stream.specs.Instances.{Stream}
+use Rattle.strc_elab_stream.specs.View.{stream_view}
+use Rattle.strc_elab_stream.specs.declared.stream.Stream as declared
+use Rattle.strc_run_refusal.specs.Placing.{placed_at, unplaced}
+use Rattle.strc_run_refusal.specs.Reports.{refusal_of}
+use Rattle.strc_run_refusal.specs.declared.placed_refusal.PlacedRefusal.{PlacedRefusal}
+use Rattle.strc_run_refusal.specs.declared.refusal.Refusal.{Refusal}
+use Rattle.strc_run_refusal.specs.declared.refusal.Refusal.TheVariants as refusal
 use Rattle.strc_run.specs.Accepts.{CanRun}
 use Rattle.strc_run.specs.Choices.{Choice}
 use Rattle.strc_run.specs.Located.{IsKnownOf, IsLocated, IsRead, Knows}

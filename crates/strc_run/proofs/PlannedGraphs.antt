@@ -2,22 +2,22 @@
 use Rattle.std.proofs.Common.{◌≡◌, ℕ, ℤ, false, refl, List, Ok}
 use Rattle.std.specs.Prelude.{All, Some, slice_get}
 use Rattle.std.specs.List.{AllByRecursion}
-use Rattle.strc_semantics.specs.Filters as filters
-use Rattle.strc_semantics.specs.Firing.{started}
-use Rattle.strc_graph.specs.Graphs as graphs
-use Rattle.strc_graph.specs.Graphs.{NodeCode, Graph}
-use Rattle.strc_graph.specs.NodeView.{GraphParts, graph_view}
+use Rattle.strc_work_meaning.specs.Filters as filters
+use Rattle.strc_work_meaning.specs.Firing.{started}
+use Rattle.strc_elab_graph.specs.Graphs as graphs
+use Rattle.strc_elab_graph.specs.Graphs.{NodeCode, Graph}
+use Rattle.strc_elab_graph.specs.NodeView.{GraphParts, graph_view}
 use Rattle.strc_rate.specs.Rates.{FilterRates, checked}
 use Rattle.strc_elab.specs.Sound.{IsInstance}
 use Rattle.strc_balance.specs.Balance.{count_at}
 use Rattle.strc_balance.specs.Rates.{IsRated, equations_of, fires_by_rounds}
 use Rattle.strc_startup.specs.Rates.{rates_of}
-use Rattle.strc_schedule.specs.Schedules.{ScheduleParts}
-use Rattle.strc_schedule.proofs.Runnable.{schedules_are_runnable}
-use Rattle.strc_admissible.specs.Planned.{IsFilterOf, IsPlanned}
+use Rattle.strc_sched_orders.specs.Schedules.{ScheduleParts}
+use Rattle.strc_sched_orders.proofs.Runnable.{schedules_are_runnable}
+use Rattle.strc_sched_laws.specs.Planned.{IsFilterOf, IsPlanned}
 use Rattle.strc_fiss.specs.Splits.{SplitParts}
-use Rattle.strc_stage.specs.Plans.{HasRound, HasSchedule, HasStartup, IsPlan, IsTransformation}
-use Rattle.strc_stage.specs.Plans.{IsWhole, parts_of}
+use Rattle.strc_stage_plan.specs.Plans.{HasRound, HasSchedule, HasStartup, IsPlan, IsTransformation}
+use Rattle.strc_stage_plan.specs.Plans.{IsWhole, parts_of}
 use Rattle.strc_run.proofs.CheckedRates.{filter_ok}
 use Rattle.strc_run.proofs.Instances.{instance_starts}
 use Rattle.strc_run.proofs.RatedGraphs.{IsChecked, checked_at}

@@ -6,24 +6,25 @@ use Rattle.std.specs.Prelude.{slice_index_or, if◌then◌else◌}
 use Rattle.std.specs.List.{AllByRecursion}
 use Rattle.std.specs.Option.{option_map_or}
 use Rattle.std.proofs.lemmas.List.{get_or-map, length-map}
-use Rattle.strc_syntax.specs.declared.tree.ItemType.{ItemType}
-use Rattle.strc_syntax.specs.declared.tree.ItemType.TheVariants as item
-use Rattle.strc_semantics.specs.Filters as filters
-use Rattle.strc_semantics.specs.Filters.{work_rates, prework_rates, prework_block, push_rate}
-use Rattle.strc_semantics.specs.Filters.{pop_rate, item_count}
+use Rattle.strc_parse_tree.specs.declared.tree.ItemType.{ItemType}
+use Rattle.strc_parse_tree.specs.declared.tree.ItemType.TheVariants as item
+use Rattle.strc_work_meaning.specs.Filters as filters
+use Rattle.strc_work_meaning.specs.Filters.{work_rates, prework_rates, prework_block, push_rate}
+use Rattle.strc_work_meaning.specs.Filters.{pop_rate, item_count}
 use Rattle.strc_rate.specs.Rates as rates
 use Rattle.strc_rate.specs.Rates.{checked, work_checked, work_lacks}
-use Rattle.strc_graph.specs.Graphs as graphs
-use Rattle.strc_graph.specs.Carriers.{carries_in, carries_out, takes_at, gives_at, JoinsCarriers}
-use Rattle.strc_graph.specs.Graphs.{NodeCode, Channel, Graph, Duplicate, Roundrobin, ports_of}
-use Rattle.strc_graph.specs.Graphs.{input_ports, output_ports}
+use Rattle.strc_elab_graph.specs.Graphs as graphs
+use Rattle.strc_elab_graph.specs.Carriers.{carries_in, carries_out, takes_at, gives_at}
+use Rattle.strc_elab_graph.specs.Carriers.{JoinsCarriers}
+use Rattle.strc_elab_graph.specs.Graphs.{NodeCode, Channel, Graph, Duplicate, Roundrobin, ports_of}
+use Rattle.strc_elab_graph.specs.Graphs.{input_ports, output_ports}
 use Rattle.strc_balance.specs.Rates.{IsRated, equation_of, equations_of, pops_by_work}
 use Rattle.strc_balance.specs.Rates.{pushes_by_work}
-use Rattle.strc_stream.specs.Flattening.{nodes_of, IsFlat}
-use Rattle.strc_stream.specs.Instances.{Stream}
+use Rattle.strc_elab_stream.specs.Flattening.{nodes_of, IsFlat}
+use Rattle.strc_elab_stream.specs.Instances.{Stream}
 use Rattle.strc_elab.specs.Sound.{IsElaborated, IsInstance}
-use Rattle.strc_stream.specs.Types.{IsWellTyped}
-use Rattle.strc_stream.specs.Dealing.{Deals, NodesDeal}
+use Rattle.strc_elab_stream.specs.Types.{IsWellTyped}
+use Rattle.strc_elab_stream.specs.Dealing.{Deals, NodesDeal}
 use Rattle.strc_run.specs.Rates.{node_checked, rates_checked}
 use Rattle.strc_run.proofs.CheckedRates.{neither, node_ok, filter_ok, work_ok, lacks_none}
 

@@ -3,15 +3,15 @@ use Rattle.std.proofs.Common.{◌≡◌, refl, sym, ap, ◌∙◌, subst, List, 
 use Rattle.std.proofs.Common.{Ok, Err, inl, inr}
 use Rattle.std.specs.Prelude.{Bool, true, false}
 use Rattle.std.specs.Result.{IsErrAnd}
-use Rattle.strc_syntax.specs.Tree.{Declaration}
+use Rattle.strc_parse_tree.specs.Tree.{Declaration}
 use Rattle.strc_parse.specs.Texts.{Spells}
-use Rattle.strc_statements.specs.Answers as elaboration
+use Rattle.strc_elab_statements.specs.Answers as elaboration
 use Rattle.strc_elab.specs.Elaboration.{elaborated}
-use Rattle.strc_stream.specs.Flattening.{nodes_of, codes_of, meaning_of, outer_loops, IsFlat}
-use Rattle.strc_stream.specs.Connections.{IsConnected}
-use Rattle.strc_flatten.specs.Verdicts.{IsRefused}
-use Rattle.strc_stream.specs.Instances.{Stream}
-use Rattle.strc_graph.specs.Graphs.{Graph, NodeCode, Filter}
+use Rattle.strc_elab_stream.specs.Flattening.{nodes_of, codes_of, meaning_of, outer_loops, IsFlat}
+use Rattle.strc_elab_stream.specs.Connections.{IsConnected}
+use Rattle.strc_elab_flattening.specs.Verdicts.{IsRefused}
+use Rattle.strc_elab_stream.specs.Instances.{Stream}
+use Rattle.strc_elab_graph.specs.Graphs.{Graph, NodeCode, Filter}
 use Rattle.strc_rate.specs.Rates.{FilterRates, checked}
 use Rattle.strc_rate.specs.declared.rates.RateError.{RateError}
 use Rattle.strc_rate.specs.declared.rates.RateError.TheVariants as rate
@@ -20,18 +20,19 @@ use Rattle.strc_balance.specs.Rates.{equations_of, size_of}
 use Rattle.strc_balance.specs.Verdicts as balancing
 use Rattle.strc_balance.specs.declared.error.BalanceError.{BalanceError}
 use Rattle.strc_balance.specs.declared.error.BalanceError.TheVariants as unbalanced
-use Rattle.strc_schedule.specs.declared.error.ScheduleError.{ScheduleError}
-use Rattle.strc_schedule.specs.declared.error.ScheduleError.TheVariants as unscheduled
+use Rattle.strc_sched_orders.specs.declared.error.ScheduleError.{ScheduleError}
+use Rattle.strc_sched_orders.specs.declared.error.ScheduleError.TheVariants as unscheduled
 use Rattle.strc_startup.specs.declared.error.StartupError.{StartupError}
 use Rattle.strc_startup.specs.declared.error.StartupError.TheVariants as unprimed
-use Rattle.strc_statements.specs.declared.error.ElabError.{ElabError}
-use Rattle.strc_statements.specs.declared.error.ElabErrorKind.TheVariants as error
-use Rattle.strc_schedule.specs.Schedules.{ScheduleParts}
-use Rattle.strc_stage.specs.Plans.{HasSchedule, HasStartup, IsDeadlocked, IsUnbounded, Overflows}
-use Rattle.strc_stage.specs.Plans.{PlanParts}
-use Rattle.strc_refusal.specs.declared.placed.PlacedRefusal.{PlacedRefusal}
-use Rattle.strc_refusal.specs.declared.refusal.Refusal.{Refusal}
-use Rattle.strc_refusal.specs.declared.refusal.Refusal.TheVariants as refusal
+use Rattle.strc_elab_statements.specs.declared.error.ElabError.{ElabError}
+use Rattle.strc_elab_statements.specs.declared.error.ElabErrorKind.TheVariants as error
+use Rattle.strc_sched_orders.specs.Schedules.{ScheduleParts}
+use Rattle.strc_stage_plan.specs.Plans.{HasSchedule, HasStartup, IsDeadlocked, IsUnbounded}
+use Rattle.strc_stage_plan.specs.Plans.{Overflows}
+use Rattle.strc_stage_plan.specs.Plans.{PlanParts}
+use Rattle.strc_run_refusal.specs.declared.placed_refusal.PlacedRefusal.{PlacedRefusal}
+use Rattle.strc_run_refusal.specs.declared.refusal.Refusal.{Refusal}
+use Rattle.strc_run_refusal.specs.declared.refusal.Refusal.TheVariants as refusal
 use Rattle.strc_run.specs.Accepts.{CanRun, round_counts}
 use Rattle.strc_run.specs.Choices.{Choice}
 use Rattle.strc_run.specs.Located.{HasPlacedPlan}
@@ -40,8 +41,8 @@ use Rattle.strc_run.specs.Refuses.{Breaks, HasNoBalance, IsTrueOf, IsReadRefusal
 use Rattle.strc_run.specs.Refuses.{IsUntransformed}
 use Rattle.strc_run.specs.Rates.{rates_checked, node_checked, filter_checked, then_check}
 use Rattle.strc_run.specs.Rates.{rate_refusal_of}
-use Rattle.strc_refusal.specs.Reports.{refusal_of, balance_refusal_of, startup_refusal_of}
-use Rattle.strc_refusal.specs.Reports.{schedule_refusal_of}
+use Rattle.strc_run_refusal.specs.Reports.{refusal_of, balance_refusal_of, startup_refusal_of}
+use Rattle.strc_run_refusal.specs.Reports.{schedule_refusal_of}
 use Rattle.strc_run.specs.Verdicts.{IsRefusal}
 
 -- a test of rates doesn't speak of the balance

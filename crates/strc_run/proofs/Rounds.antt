@@ -3,15 +3,15 @@ use Rattle.std.proofs.Common.{◌≡◌, ℕ, ◌<◌, ◌≤◌, ℤ, true, Lis
 use Rattle.std.proofs.Common.{Some, None, Result, Ok, Err, refl, sym, subst, ◌∙◌, arith}
 use Rattle.std.specs.Prelude.{IfOk, IfErr, unwrap_or}
 use Rattle.std.specs.List.{list_any}
-use Rattle.strc_graph.specs.Graphs.{reads_input}
-use Rattle.strc_parallel.specs.Answers.{AnswersPlan}
+use Rattle.strc_elab_graph.specs.Graphs.{reads_input}
+use Rattle.strc_stage.specs.Answers.{AnswersPlan}
 use Rattle.strc_sched.specs.Serving.{IsServed}
-use Rattle.strc_refusal.specs.declared.outcome.Outcome.{Outcome}
-use Rattle.strc_refusal.specs.declared.run_refusal.RunRefusal.{RunRefusal}
-use Rattle.strc_refusal.specs.declared.run_refusal.RunRefusal.TheVariants as refused
-use Rattle.strc_stage.specs.Plans.{PlanParts, graph_of}
-use Rattle.strc_stages.specs.Plans.{need_of}
-use Rattle.strc_parallel.specs.Running.{LacksMeans}
+use Rattle.strc_sched_outcome.specs.declared.outcome.Outcome.{Outcome}
+use Rattle.strc_sched_outcome.specs.declared.run_refusal.RunRefusal.{RunRefusal}
+use Rattle.strc_sched_outcome.specs.declared.run_refusal.RunRefusal.TheVariants as refused
+use Rattle.strc_stage_plan.specs.Plans.{PlanParts, graph_of}
+use Rattle.strc_stage_steps.specs.Plans.{need_of}
+use Rattle.strc_stage.specs.Running.{LacksMeans}
 use Rattle.strc_run.specs.Rounds.{AreWorkers, IsRunOf, IsUnrun, IsWorkedRefusal, is_bounded}
 
 -- what one thread refuses where the input is long enough

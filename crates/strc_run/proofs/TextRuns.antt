@@ -2,12 +2,12 @@
 use Rattle.std.proofs.Common.{◌≡◌, ◌∙◌, ap, sym, subst, ℕ, ◌<◌, ◌≤◌, ℤ, List, length, Option}
 use Rattle.std.proofs.Common.{Ok, Err, true}
 use Rattle.std.specs.Prelude.{unwrap_or}
-use Rattle.strc_stream.specs.Flattening.{tree_of, nodes_of}
-use Rattle.strc_refusal.specs.declared.outcome.Outcome.{Outcome}
-use Rattle.strc_refusal.specs.declared.run_refusal.RunRefusal.{RunRefusal}
-use Rattle.strc_refusal.specs.declared.run_refusal.RunRefusal.TheVariants as refused
-use Rattle.strc_stage.specs.Plans.{PlanParts, graph_of}
-use Rattle.strc_stages.specs.Plans.{need_of}
+use Rattle.strc_elab_stream.specs.Flattening.{tree_of, nodes_of}
+use Rattle.strc_sched_outcome.specs.declared.outcome.Outcome.{Outcome}
+use Rattle.strc_sched_outcome.specs.declared.run_refusal.RunRefusal.{RunRefusal}
+use Rattle.strc_sched_outcome.specs.declared.run_refusal.RunRefusal.TheVariants as refused
+use Rattle.strc_stage_plan.specs.Plans.{PlanParts, graph_of}
+use Rattle.strc_stage_steps.specs.Plans.{need_of}
 use Rattle.strc_run.specs.Choices.{Choice}
 use Rattle.strc_run.specs.Laws.{PlansAnswerTexts}
 use Rattle.strc_run.specs.Plans.{IsPlanOf}

@@ -1,19 +1,19 @@
 -- Which texts are accepted, and with which plan.
 use Rattle.std.specs.Prelude.{◌≡◌, ℕ, List, Result, Ok}
-use Rattle.strc_syntax.specs.Tree.{Declaration}
+use Rattle.strc_parse_tree.specs.Tree.{Declaration}
 use Rattle.strc_parse.specs.Texts.{Spells}
 use Rattle.strc_elab.specs.Elaboration.{elaborated}
-use Rattle.strc_stream.specs.Connections.{IsConnected}
-use Rattle.strc_stream.specs.Flattening.{nodes_of, codes_of, meaning_of, outer_loops, IsFlat}
-use Rattle.strc_stream.specs.Instances.{Stream}
-use Rattle.strc_flatten.specs.Verdicts.{IsAccepted}
-use Rattle.strc_graph.specs.Graphs.{Graph}
+use Rattle.strc_elab_stream.specs.Connections.{IsConnected}
+use Rattle.strc_elab_stream.specs.Flattening.{nodes_of, codes_of, meaning_of, outer_loops, IsFlat}
+use Rattle.strc_elab_stream.specs.Instances.{Stream}
+use Rattle.strc_elab_flattening.specs.Verdicts.{IsAccepted}
+use Rattle.strc_elab_graph.specs.Graphs.{Graph}
 use Rattle.strc_balance.specs.Rates.{equations_of, size_of}
 use Rattle.strc_balance.specs.Verdicts.{judged}
 use Rattle.strc_balance.specs.declared.error.BalanceError.{BalanceError}
 use Rattle.strc_fiss.specs.Fissions.{IsTransformed}
 use Rattle.strc_fiss.specs.Ways.{fission_of}
-use Rattle.strc_stage.specs.Plans.{HasSchedule, HasStartup, PlanParts, graph_of}
+use Rattle.strc_stage_plan.specs.Plans.{HasSchedule, HasStartup, PlanParts, graph_of}
 use Rattle.strc_run.specs.Choices.{Choice}
 use Rattle.strc_run.specs.Rates.{rates_checked}
 

@@ -1,9 +1,9 @@
 -- What holds of all texts.
 use Rattle.std.specs.Prelude.{◌≡◌, ℕ, ℤ, List, Option, Result}
-use Rattle.strc_refusal.specs.declared.outcome.Outcome.{Outcome}
-use Rattle.strc_refusal.specs.declared.run_refusal.RunRefusal.{RunRefusal}
-use Rattle.strc_stage.specs.Plans.{PlanParts}
-use Rattle.strc_refusal.specs.declared.refusal.Refusal.{Refusal}
+use Rattle.strc_sched_outcome.specs.declared.outcome.Outcome.{Outcome}
+use Rattle.strc_sched_outcome.specs.declared.run_refusal.RunRefusal.{RunRefusal}
+use Rattle.strc_stage_plan.specs.Plans.{PlanParts}
+use Rattle.strc_run_refusal.specs.declared.refusal.Refusal.{Refusal}
 use Rattle.strc_run.specs.Accepts.{Accepts}
 use Rattle.strc_run.specs.Choices.{Choice}
 use Rattle.strc_run.specs.Plans.{IsPlanOf}

@@ -3,28 +3,28 @@
 use Rattle.std.specs.Prelude.{◌≡◌, ◌≢◌, ℕ, is_some, true, List, Option, Some, None, IfSome}
 use Rattle.std.specs.Prelude.{Result, Ok, Err}
 use Rattle.std.specs.Option.{option_map}
-use Rattle.strc_base.specs.declared.place.Span.{Span}
+use Rattle.strc_lex_names.specs.declared.place.Span.{Span}
 use Rattle.strc_lex.specs.declared.token.Token.{Token}
-use Rattle.strc_syntax.specs.View.{program_view}
-use Rattle.strc_syntax.specs.declared.tree.Program.{Program}
-use Rattle.strc_grammar.specs.Grammar.{Parses, kinds}
+use Rattle.strc_parse_tree.specs.View.{program_view}
+use Rattle.strc_parse_tree.specs.declared.tree.Program.{Program}
+use Rattle.strc_parse_grammar.specs.Grammar.{Parses, kinds}
 use Rattle.strc_parse.specs.Placed.{IsProgramPlaced}
 use Rattle.strc_parse.specs.Texts.{HasTokens}
-use Rattle.strc_statements.specs.declared.error.ElabError.{ElabError}
+use Rattle.strc_elab_statements.specs.declared.error.ElabError.{ElabError}
 use Rattle.strc_elab.specs.Elaboration.{elaborated}
 use Rattle.strc_elab.specs.Places.{program_place}
-use Rattle.strc_graph.specs.NodeView.{graph_view}
-use Rattle.strc_stream.specs.Flattening.{IsFlat}
-use Rattle.strc_stream.specs.Instances.{Stream}
-use Rattle.strc_stream.specs.View.{stream_view}
-use Rattle.strc_stream.specs.declared.stream.Stream as declared
-use Rattle.strc_statements.specs.Answers.{IsRefusal}
-use Rattle.strc_refusal.specs.Placing.{unplaced}
-use Rattle.strc_refusal.specs.Reports.{refusal_of}
-use Rattle.strc_stage.specs.Plans.{PlanParts}
-use Rattle.strc_refusal.specs.declared.refusal.Refusal.{Refusal}
-use Rattle.strc_refusal.specs.declared.refusal.Refusal.TheVariants as refusal
-use Rattle.strc_refusal.specs.declared.placed.PlacedRefusal.{PlacedRefusal}
+use Rattle.strc_elab_graph.specs.NodeView.{graph_view}
+use Rattle.strc_elab_stream.specs.Flattening.{IsFlat}
+use Rattle.strc_elab_stream.specs.Instances.{Stream}
+use Rattle.strc_elab_stream.specs.View.{stream_view}
+use Rattle.strc_elab_stream.specs.declared.stream.Stream as declared
+use Rattle.strc_elab_statements.specs.Answers.{IsRefusal}
+use Rattle.strc_run_refusal.specs.Placing.{unplaced}
+use Rattle.strc_run_refusal.specs.Reports.{refusal_of}
+use Rattle.strc_stage_plan.specs.Plans.{PlanParts}
+use Rattle.strc_run_refusal.specs.declared.refusal.Refusal.{Refusal}
+use Rattle.strc_run_refusal.specs.declared.refusal.Refusal.TheVariants as refusal
+use Rattle.strc_run_refusal.specs.declared.placed_refusal.PlacedRefusal.{PlacedRefusal}
 use Rattle.strc_run.specs.Accepts.{CanRun}
 use Rattle.strc_run.specs.Choices.{Choice}
 use Rattle.strc_run.specs.Plans.{HasPlan}

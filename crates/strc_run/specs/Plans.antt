@@ -1,9 +1,9 @@
 -- How a text is answered with a plan.
 use Rattle.std.specs.Prelude.{◌≡◌, ℕ, List, Result, Ok, Err}
-use Rattle.strc_graph.specs.FlatGraphs.{IsProgram}
-use Rattle.strc_stream.specs.Flattening.{tree_of, nodes_of}
-use Rattle.strc_stage.specs.Plans.{PlanParts, graph_of}
-use Rattle.strc_refusal.specs.declared.refusal.Refusal.{Refusal}
+use Rattle.strc_elab_graph.specs.FlatGraphs.{IsProgram}
+use Rattle.strc_elab_stream.specs.Flattening.{tree_of, nodes_of}
+use Rattle.strc_stage_plan.specs.Plans.{PlanParts, graph_of}
+use Rattle.strc_run_refusal.specs.declared.refusal.Refusal.{Refusal}
 use Rattle.strc_run.specs.Accepts.{Accepts}
 use Rattle.strc_run.specs.Choices.{Choice}
 use Rattle.strc_run.specs.Refuses.{IsTrueOf}

@@ -1,11 +1,11 @@
 -- The rates of filters, node by node (StreamIt specification 2.1, "Filters": the rates of `work`).
 use Rattle.std.specs.Prelude.{ℕ, ◌+◌, List, [], ◌∷◌, Result, Ok, Err}
-use Rattle.strc_graph.specs.Graphs.{NodeCode, Filter}
+use Rattle.strc_elab_graph.specs.Graphs.{NodeCode, Filter}
 use Rattle.strc_rate.specs.Rates.{FilterRates, checked}
 use Rattle.strc_rate.specs.declared.rates.RateError.{RateError}
 use Rattle.strc_rate.specs.declared.rates.RateError.TheVariants as rate
-use Rattle.strc_refusal.specs.declared.refusal.Refusal.{Refusal}
-use Rattle.strc_refusal.specs.declared.refusal.Refusal.TheVariants as refusal
+use Rattle.strc_run_refusal.specs.declared.refusal.Refusal.{Refusal}
+use Rattle.strc_run_refusal.specs.declared.refusal.Refusal.TheVariants as refusal
 
 -- a refusal of a filter's rates, with its node
 abbrev pub rate_refusal_of : ℕ → RateError → Refusal

@@ -2,29 +2,29 @@
 -- on the text's tokens, its tree, its elaboration, its flat graph, its nodes' rates, their balance,
 -- their start-up, their schedule, fission, fusion.
 use Rattle.std.specs.Prelude.{◌≡◌, ℕ, ◌⊎◌, List, Ok, Err}
-use Rattle.strc_syntax.specs.Tree.{Declaration}
-use Rattle.strc_grammar.specs.declared.error.ParseError.TheVariants as parsing
+use Rattle.strc_parse_tree.specs.Tree.{Declaration}
+use Rattle.strc_parse_grammar.specs.declared.error.ParseError.TheVariants as parsing
 use Rattle.strc_parse.specs.Texts.{HasNoToken, IsNoProgram, IsTooLong, Spells}
-use Rattle.strc_statements.specs.declared.error.ElabError.{ElabError}
-use Rattle.strc_statements.specs.declared.error.ElabErrorKind.TheVariants as error
+use Rattle.strc_elab_statements.specs.declared.error.ElabError.{ElabError}
+use Rattle.strc_elab_statements.specs.declared.error.ElabErrorKind.TheVariants as error
 use Rattle.strc_elab.specs.Elaboration.{elaborated}
-use Rattle.strc_stream.specs.Connections.{IsConnected}
-use Rattle.strc_stream.specs.Flattening.{nodes_of, codes_of, meaning_of, outer_loops, IsFlat}
-use Rattle.strc_stream.specs.Instances.{Stream}
-use Rattle.strc_flatten.specs.Verdicts.{IsRefused}
-use Rattle.strc_graph.specs.Graphs.{Graph}
+use Rattle.strc_elab_stream.specs.Connections.{IsConnected}
+use Rattle.strc_elab_stream.specs.Flattening.{nodes_of, codes_of, meaning_of, outer_loops, IsFlat}
+use Rattle.strc_elab_stream.specs.Instances.{Stream}
+use Rattle.strc_elab_flattening.specs.Verdicts.{IsRefused}
+use Rattle.strc_elab_graph.specs.Graphs.{Graph}
 use Rattle.strc_balance.specs.Balance.{Balances}
 use Rattle.strc_balance.specs.Rates.{equations_of, size_of}
 use Rattle.strc_balance.specs.declared.error.BalanceError.TheVariants as unbalanced
-use Rattle.strc_schedule.specs.Schedules.{ScheduleParts}
-use Rattle.strc_stage.specs.Plans.{HasSchedule, HasStartup, HasTooManyParts, IsDeadlocked}
-use Rattle.strc_stage.specs.Plans.{IsUnbounded, Overflows, OverflowsFused, OverflowsSplit}
-use Rattle.strc_refusal.specs.declared.refusal.Refusal.{Refusal}
-use Rattle.strc_refusal.specs.declared.refusal.Refusal.TheVariants as refusal
+use Rattle.strc_sched_orders.specs.Schedules.{ScheduleParts}
+use Rattle.strc_stage_plan.specs.Plans.{HasSchedule, HasStartup, HasTooManyParts, IsDeadlocked}
+use Rattle.strc_stage_plan.specs.Plans.{IsUnbounded, Overflows, OverflowsFused, OverflowsSplit}
+use Rattle.strc_run_refusal.specs.declared.refusal.Refusal.{Refusal}
+use Rattle.strc_run_refusal.specs.declared.refusal.Refusal.TheVariants as refusal
 use Rattle.strc_run.specs.Accepts.{CanRun, round_counts}
 use Rattle.strc_run.specs.Choices.{Choice}
 use Rattle.strc_run.specs.Rates.{rates_checked}
-use Rattle.strc_refusal.specs.Reports.{refusal_of}
+use Rattle.strc_run_refusal.specs.Reports.{refusal_of}
 
 -- the text spells no program, for this reason
 abbrev pub IsUnreadable : List ℕ → Refusal → Type 0

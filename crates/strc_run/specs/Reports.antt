@@ -3,8 +3,8 @@ use Rattle.strc_fuse.specs.declared.error.FuseError.{FuseError}
 use Rattle.strc_fuse.specs.declared.error.FuseError.TheVariants as unfused
 use Rattle.strc_fiss.specs.declared.error.FissError.{FissError}
 use Rattle.strc_fiss.specs.declared.error.FissError.TheVariants as unsplit
-use Rattle.strc_refusal.specs.declared.refusal.Refusal.{Refusal}
-use Rattle.strc_refusal.specs.declared.refusal.Refusal.TheVariants as refusal
+use Rattle.strc_run_refusal.specs.declared.refusal.Refusal.{Refusal}
+use Rattle.strc_run_refusal.specs.declared.refusal.Refusal.TheVariants as refusal
 
 abbrev pub fission_refusal_of : FissError → Refusal
 fission_refusal_of unsplit.NodeLimit = refusal.NodeLimit

@@ -3,14 +3,14 @@
 use Rattle.std.specs.Prelude.{◌≡◌, ℕ, ◌<◌, ◌≤◌, ℤ, Bool, true, false, ◌||◌, List, length, Option}
 use Rattle.std.specs.Prelude.{Some, None, unwrap_or, Result, Ok, Err}
 use Rattle.std.specs.List.{list_any}
-use Rattle.strc_graph.specs.Graphs.{NodeCode, reads_input}
-use Rattle.strc_parallel.specs.Answers.{AnswersPlan}
+use Rattle.strc_elab_graph.specs.Graphs.{NodeCode, reads_input}
+use Rattle.strc_stage.specs.Answers.{AnswersPlan}
 use Rattle.strc_sched.specs.Serving.{Serves}
-use Rattle.strc_refusal.specs.declared.outcome.Outcome.{Outcome}
-use Rattle.strc_refusal.specs.declared.run_refusal.RunRefusal.{RunRefusal}
-use Rattle.strc_refusal.specs.declared.run_refusal.RunRefusal.TheVariants as refused
-use Rattle.strc_stage.specs.Plans.{PlanParts, graph_of}
-use Rattle.strc_stages.specs.Plans.{need_of}
+use Rattle.strc_sched_outcome.specs.declared.outcome.Outcome.{Outcome}
+use Rattle.strc_sched_outcome.specs.declared.run_refusal.RunRefusal.{RunRefusal}
+use Rattle.strc_sched_outcome.specs.declared.run_refusal.RunRefusal.TheVariants as refused
+use Rattle.strc_stage_plan.specs.Plans.{PlanParts, graph_of}
+use Rattle.strc_stage_steps.specs.Plans.{need_of}
 use Rattle.strc_run.specs.declared.run.TheConstants.{WORKER_LIMIT}
 
 -- rounds can be run by so many workers

@@ -1,12 +1,12 @@
 -- Which stream a text means.
 use Rattle.std.specs.Prelude.{◌≡◌, ℕ, List, Option, Result, Ok, Err}
-use Rattle.strc_syntax.specs.Tree.{Declaration}
+use Rattle.strc_parse_tree.specs.Tree.{Declaration}
 use Rattle.strc_parse.specs.Texts.{Spells}
 use Rattle.strc_elab.specs.Elaboration.{elaborated}
-use Rattle.strc_stream.specs.Instances as instances
-use Rattle.strc_stream.specs.View.{stream_view}
-use Rattle.strc_stream.specs.declared.stream.Stream.{Stream}
-use Rattle.strc_refusal.specs.declared.refusal.Refusal.{Refusal}
+use Rattle.strc_elab_stream.specs.Instances as instances
+use Rattle.strc_elab_stream.specs.View.{stream_view}
+use Rattle.strc_elab_stream.specs.declared.stream.Stream.{Stream}
+use Rattle.strc_run_refusal.specs.declared.refusal.Refusal.{Refusal}
 use Rattle.strc_run.specs.Choices.{Choice}
 use Rattle.strc_run.specs.Refuses.{IsTrueOf}
 

@@ -2,15 +2,15 @@
 use Rattle.std.specs.Prelude.{◌≡◌, ℕ, ◌<◌, ◌≤◌, ℤ, Bool, true, false, List, length, Option}
 use Rattle.std.specs.Prelude.{unwrap_or, Result, Ok, Err}
 use Rattle.std.specs.List.{list_any}
-use Rattle.strc_graph.specs.Graphs.{reads_input}
-use Rattle.strc_stream.specs.Flattening.{tree_of, nodes_of}
-use Rattle.strc_stream.specs.Instances.{Stream}
-use Rattle.strc_parallel.specs.Answers.{IsOutcomeOf}
-use Rattle.strc_refusal.specs.declared.outcome.Outcome.{Outcome}
-use Rattle.strc_refusal.specs.declared.run_refusal.RunRefusal.{RunRefusal}
-use Rattle.strc_refusal.specs.declared.run_refusal.RunRefusal.TheVariants as refused
-use Rattle.strc_stage.specs.Plans.{PlanParts}
-use Rattle.strc_stages.specs.Plans.{need_of}
+use Rattle.strc_elab_graph.specs.Graphs.{reads_input}
+use Rattle.strc_elab_stream.specs.Flattening.{tree_of, nodes_of}
+use Rattle.strc_elab_stream.specs.Instances.{Stream}
+use Rattle.strc_stage.specs.Answers.{IsOutcomeOf}
+use Rattle.strc_sched_outcome.specs.declared.outcome.Outcome.{Outcome}
+use Rattle.strc_sched_outcome.specs.declared.run_refusal.RunRefusal.{RunRefusal}
+use Rattle.strc_sched_outcome.specs.declared.run_refusal.RunRefusal.TheVariants as refused
+use Rattle.strc_stage_plan.specs.Plans.{PlanParts}
+use Rattle.strc_stage_steps.specs.Plans.{need_of}
 use Rattle.strc_run.specs.Accepts.{Accepts}
 use Rattle.strc_run.specs.Choices.{Choice}
 use Rattle.strc_run.specs.Rounds.{AreWorkers, IsCount, is_bounded}

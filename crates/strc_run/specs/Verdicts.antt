@@ -1,8 +1,8 @@
 -- How code answers a judgement of the definitions: with what it gives, or with its refusal, or
 -- where memory runs out.
 use Rattle.std.specs.Prelude.{◌≡◌, Result, Ok, Err}
-use Rattle.strc_refusal.specs.declared.refusal.Refusal.{Refusal}
-use Rattle.strc_refusal.specs.declared.refusal.Refusal.TheVariants.{NoMemory}
+use Rattle.strc_run_refusal.specs.declared.refusal.Refusal.{Refusal}
+use Rattle.strc_run_refusal.specs.declared.refusal.Refusal.TheVariants.{NoMemory}
 
 -- the judgement's refusal, if it isn't out of memory
 abbrev pub IsRefusal : {A : Type 0} → Result A Refusal → Refusal → Type 0

@@ -2,38 +2,38 @@
 
 ghost use Rattle.std.specs.Prelude.{◌≡◌, ℕ, List, Err, IfOk, IfErr};
 ghost use Rattle.std.specs.Option.{option_map};
-ghost use Rattle.strc_syntax.specs.View.{program_view};
+ghost use Rattle.strc_parse_tree.specs.View.{program_view};
 ghost use Rattle.strc_parse.specs.Texts.{Spells};
 ghost use Rattle.strc_run.specs.Choices.{choice_of};
 ghost use Rattle.strc_run.specs.Located.{HasPlacedPlan, IsKnownOf, IsLocated, IsMainStream, IsRead};
 ghost use Rattle.strc_run.specs.Located.{refusal_in};
 ghost use Rattle.strc_elab.specs.Elaboration.{elaborated};
 ghost use Rattle.strc_elab.specs.Sound.{IsElaborated};
-ghost use Rattle.strc_stream.specs.View.{stream_view};
+ghost use Rattle.strc_elab_stream.specs.View.{stream_view};
 ghost use Rattle.strc_run.specs.Plans.{HasPlan};
 ghost use Rattle.strc_run.specs.Streams.{HasStream};
 ghost use Rattle.strc_run.specs.Refuses.{HasNoBalance, IsReadRefusal};
-ghost use Rattle.strc_refusal.specs.declared.refusal.Refusal.TheVariants as refused;
+ghost use Rattle.strc_run_refusal.specs.declared.refusal.Refusal.TheVariants as refused;
 
 use crate::options::Options;
 use crate::rates::check_rates;
 use crate::refusal::Refusal;
-use crate::transforming::transformed;
+use crate::transformations::transformed;
 use std::alloc::Global;
 use strc_balance::balance::balance;
 use strc_elab::elaborate::{elaborate, elaborate_placed};
-use strc_flatten::flatten::flatten;
+use strc_elab_flattening::flatten::flatten;
+use strc_elab_stream::laws::nodes_deal;
+use strc_elab_stream::stream::Stream;
 use strc_fuse::laws::schedules_can_be_fused;
 use strc_lex::error::LexError;
 use strc_lex::lexer::lex;
 use strc_parse::{ParseError, parse};
-use strc_refusal::placed::PlacedRefusal;
-use strc_schedule::planning::schedule;
-pub use strc_stage::plan::Plan;
+use strc_parse_tree::tree::Program;
+use strc_run_refusal::placed_refusal::PlacedRefusal;
+use strc_sched_orders::scheduler::schedule;
+pub use strc_stage_plan::plan::Plan;
 use strc_startup::startup::startup;
-use strc_stream::laws::nodes_deal;
-use strc_stream::stream::Stream;
-use strc_syntax::tree::Program;
 
 /// The plan of the program's main stream, or the refusal of the first rule that is broken, as
 /// `compile_or_where` has it.

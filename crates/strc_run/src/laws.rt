@@ -2,10 +2,10 @@
 
 ghost use Rattle.strc_run.specs.Laws.{AcceptedOrRefused, OneStream, PlansAnswerTexts};
 
+use strc_elab_stream::laws::one_flat_graph;
 use strc_parse::laws::{one_program, spelled_texts_are_readable};
-use strc_stage::laws::{one_startup, scheduled_or_refused};
-use strc_stage::split_laws::transformed_or_refused;
-use strc_stream::laws::one_flat_graph;
+use strc_stage_plan::laws::{one_startup, scheduled_or_refused};
+use strc_stage_plan::split_laws::transformed_or_refused;
 
 /// No text is both accepted and refused.
 pub fn accepted_or_refused()

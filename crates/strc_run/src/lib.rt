@@ -3,10 +3,10 @@
 // schedule and with both after fission and fusion, or the first refusal; and runs plans.
 // The theorem to rely on: `compile` refuses exactly where a layer does, and the outcome of a plan's
 // rounds is the answer of its stream's equations (`laws::plans_answer_texts`).
-// Stands on strc_lex, strc_parse, strc_elab, strc_flatten, strc_rate, strc_balance, strc_startup,
-// strc_schedule, strc_fiss and strc_fuse, whose rules a text keeps, on strc_refusal, whose refusals
-// and outcomes it gives and passes on, on strc_stage, whose plans it gives, and on strc_sched and
-// strc_parallel, which run schedules and stages.
+// Stands on strc_lex, strc_parse, strc_elab, strc_elab_flattening, strc_rate, strc_balance,
+// strc_startup, strc_sched_orders, strc_fiss and strc_fuse, whose rules a text keeps, on
+// strc_run_refusal, whose refusals and outcomes it gives and passes on, on strc_stage_plan, whose
+// plans it gives, and on strc_sched and strc_run_workers, which run schedules and stages.
 #![tactic(auto)]
 
 pub mod compile;
@@ -14,6 +14,7 @@ pub mod laws;
 pub mod options;
 mod rates;
 pub mod run;
-mod transforming;
+mod transformations;
 
-pub use strc_refusal::refusal;
+pub use strc_run_links::{Gate, OpenGate, Rx, Tx, Worked, close, link, work};
+pub use strc_run_refusal::refusal;

@@ -1,13 +1,13 @@
 // The rates of the nodes of a program, one by one.
 
 ghost use Rattle.std.specs.Prelude.{◌≡◌, map};
-ghost use Rattle.strc_graph.specs.NodeView.{node_view};
+ghost use Rattle.strc_elab_graph.specs.NodeView.{node_view};
 ghost use Rattle.strc_run.specs.Rates as spec;
 ghost use Rattle.strc_run.specs.Verdicts.{IsVerdict};
 
 use crate::refusal::Refusal;
 use std::alloc::Global;
-use strc_graph::graph::Node;
+use strc_elab_graph::graph::Node;
 use strc_rate::rates::{RateError, check};
 
 /// Tests the rates of each node, in order, and tells the first refusal of its node: of a filter

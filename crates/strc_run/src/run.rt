@@ -1,23 +1,23 @@
 // The rounds of a plan.
 
 ghost use Rattle.std.specs.Prelude.{◌≡◌, ◌≤◌, None, IfErr, IfOk, length};
-ghost use Rattle.strc_parallel.specs.Answers.{AnswersPlan};
-ghost use Rattle.strc_stages.specs.Plans.{need_of};
+ghost use Rattle.strc_stage.specs.Answers.{AnswersPlan};
+ghost use Rattle.strc_stage_steps.specs.Plans.{need_of};
 ghost use Rattle.strc_run.specs.Rounds.{AreWorkers, IsRunOf, IsWorkedRefusal, plan_reads};
 
 use std::alloc::Global;
 use std::sync::Wait;
 use std::thread::Threads;
-use strc_parallel::alone::run_alone;
-use strc_parallel::running::run_stages;
-pub use strc_refusal::outcome::{Outcome, Round};
-pub use strc_refusal::run_refusal::RunRefusal;
-use strc_ring::Gate;
+use strc_run_links::Gate;
+use strc_run_workers::alone::run_alone;
+use strc_run_workers::stage_rounds::run_stages;
 use strc_sched::plain::input_needed;
-use strc_sched::serving;
-use strc_sched::serving::rounds_served;
-use strc_stage::plan::Plan;
-use strc_stages::Stage;
+use strc_sched::served_rounds;
+use strc_sched::served_rounds::rounds_served;
+pub use strc_sched_outcome::outcome::{Outcome, Round};
+pub use strc_sched_outcome::run_refusal::RunRefusal;
+use strc_stage_plan::plan::Plan;
+use strc_stage_steps::Stage;
 
 /// The most workers that rounds are run by.
 pub const WORKER_LIMIT: u32 = 64;
@@ -105,5 +105,5 @@ fn run_rounds<G: Gate<Stage>, R: Threads + Wait + Sync>(
 pub fn reads_input(plan: &Plan) -> bool
     ensures { result ≡ plan_reads plan.now }
 {
-    serving::reads_input(plan.graph())
+    served_rounds::reads_input(plan.graph())
 }

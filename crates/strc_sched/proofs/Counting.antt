@@ -2,15 +2,15 @@
 use Rattle.std.proofs.Common.{◌≡◌, ◌≢◌, refl, sym, ap, ◌∙◌, ℕ, zero, suc, ◌+◌, ◌*◌, ◌<◌, ◌≤◌, List}
 use Rattle.std.proofs.Common.{[], ◌∷◌, ◌++◌, length, take, get_or, arith}
 use Rattle.std.proofs.lemmas.List.{take_more}
-use Rattle.strc_dataflow.specs.Order.{counts_after}
-use Rattle.strc_schedule.specs.declared.unit as units
-use Rattle.strc_schedule.specs.Greedy.{firings_of}
-use Rattle.strc_schedule.specs.Order.{firing_count, repeated}
-use Rattle.strc_schedule.specs.Schedules.{ScheduleParts}
-use Rattle.strc_schedule.proofs.Greedily.{firings_push}
-use Rattle.strc_schedule.proofs.FiringCounts.{firing_count_append, turns_same, turns_other}
-use Rattle.strc_schedule.proofs.Units.{firing_count_take}
-use Rattle.strc_admissible.specs.Laws.{counts_at, startup_order, round_order}
+use Rattle.strc_elab_dataflow.specs.Order.{counts_after}
+use Rattle.strc_sched_orders.specs.declared.unit as units
+use Rattle.strc_sched_orders.specs.Greedy.{firings_of}
+use Rattle.strc_sched_orders.specs.Order.{firing_count, repeated}
+use Rattle.strc_sched_orders.specs.Schedules.{ScheduleParts}
+use Rattle.strc_sched_orders.proofs.Greedily.{firings_push}
+use Rattle.strc_sched_orders.proofs.FiringCounts.{firing_count_append, turns_same, turns_other}
+use Rattle.strc_sched_orders.proofs.Units.{firing_count_take}
+use Rattle.strc_sched_laws.specs.Laws.{counts_at, startup_order, round_order}
 
 -- a list some times
 pub firing_count_times : (turns : ℕ) (nodes : List ℕ) (node : ℕ)

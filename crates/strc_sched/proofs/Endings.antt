@@ -5,30 +5,30 @@ use Rattle.std.proofs.Common.{length, take, arith, add-one, Result, Ok, Err, map
 use Rattle.std.specs.Prelude.{IfOk, IfErr, Some, slice_get, slice_index, if◌then◌else◌}
 use Rattle.std.proofs.Math.Seq.{take-append_seam}
 use Rattle.std.proofs.lemmas.Option.{slice_get_within, get_or_from_slice_get}
-use Rattle.strc_semantics.specs.declared.fault.Cause.{Cause}
-use Rattle.strc_semantics.specs.declared.word.Word.{Word}
-use Rattle.strc_instructions.specs.Running.{MoreWords}
-use Rattle.strc_graph.specs.Graphs as graphs
-use Rattle.strc_graph.specs.Graphs.{NodeCode, Graph, gives_words}
-use Rattle.strc_admissible.specs.Machine.{CircuitView, MachineView, Progress, Went, Stopped}
-use Rattle.strc_admissible.specs.Machine.{Ending, FaultedIn, FaultedAtFirst, order_run}
-use Rattle.strc_admissible.specs.Machine.{after_round, after_startup}
-use Rattle.strc_graph.specs.NodeView.{node_view}
+use Rattle.strc_work_meaning.specs.declared.fault.Cause.{Cause}
+use Rattle.strc_work_meaning.specs.declared.word.Word.{Word}
+use Rattle.strc_work_instructions.specs.Running.{MoreWords}
+use Rattle.strc_elab_graph.specs.Graphs as graphs
+use Rattle.strc_elab_graph.specs.Graphs.{NodeCode, Graph, gives_words}
+use Rattle.strc_sched_laws.specs.Machine.{CircuitView, MachineView, Progress, Went, Stopped}
+use Rattle.strc_sched_laws.specs.Machine.{Ending, FaultedIn, FaultedAtFirst, order_run}
+use Rattle.strc_sched_laws.specs.Machine.{after_round, after_startup}
+use Rattle.strc_elab_graph.specs.NodeView.{node_view}
 use Rattle.strc_sched.specs.Marks.{kept_tapes}
 use Rattle.strc_sched.specs.declared.tapes.Marks.{Marks}
-use Rattle.strc_admissible.specs.Machine.{rounds_run, words_at}
-use Rattle.strc_admissible.specs.Planned.{AreKnown}
-use Rattle.strc_runner.specs.Actors.{AreClosed, IsClosedNode}
+use Rattle.strc_sched_laws.specs.Machine.{rounds_run, words_at}
+use Rattle.strc_sched_laws.specs.Planned.{AreKnown}
+use Rattle.strc_sched_machine.specs.Actors.{AreClosed, IsClosedNode}
 use Rattle.strc_sched.specs.Plain.{IsEnding, IsStopped}
-use Rattle.strc_runner.specs.Running.{HasGone, HaveMoreWords}
+use Rattle.strc_sched_machine.specs.Running.{HasGone, HaveMoreWords}
 use Rattle.strc_sched.specs.Tapes.{AreMarked, tapes_from, tapes_of}
-use Rattle.strc_refusal.specs.Tapes.{TapeView, tape}
-use Rattle.strc_runner.specs.declared.machine.Stop.{Stop}
-use Rattle.strc_runner.specs.declared.machine.Stop.TheVariants as stop
-use Rattle.strc_refusal.specs.declared.outcome.Outcome.{Outcome}
-use Rattle.strc_refusal.specs.declared.outcome.Round.TheVariants as round
-use Rattle.strc_refusal.specs.declared.run_refusal.RunRefusal.{RunRefusal}
-use Rattle.strc_refusal.specs.declared.run_refusal.RunRefusal.TheVariants as refused
+use Rattle.strc_sched_outcome.specs.Tapes.{TapeView, tape}
+use Rattle.strc_sched_machine.specs.declared.machine.Stop.{Stop}
+use Rattle.strc_sched_machine.specs.declared.machine.Stop.TheVariants as stop
+use Rattle.strc_sched_outcome.specs.declared.outcome.Outcome.{Outcome}
+use Rattle.strc_sched_outcome.specs.declared.outcome.Round.TheVariants as round
+use Rattle.strc_sched_outcome.specs.declared.run_refusal.RunRefusal.{RunRefusal}
+use Rattle.strc_sched_outcome.specs.declared.run_refusal.RunRefusal.TheVariants as refused
 
 module _ (circuit : CircuitView) (order : List ℕ) (rounds now_round : ℕ) (left : now_round < rounds)
     (now : MachineView) where

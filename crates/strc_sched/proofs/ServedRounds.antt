@@ -3,8 +3,8 @@ use Rattle.std.proofs.Common.{◌≡◌, ℕ, suc, ◌+◌, Bool, true, false, c
 use Rattle.std.proofs.Common.{Option, Some, None, refl, arith, inl, inr}
 use Rattle.std.specs.Prelude.{is_some, ◌||◌}
 use Rattle.std.specs.List.{list_any}
-use Rattle.strc_graph.specs.Graphs.{NodeCode, reads_input}
-use Rattle.strc_admissible.specs.Planned.{items_read, read_from}
+use Rattle.strc_elab_graph.specs.Graphs.{NodeCode, reads_input}
+use Rattle.strc_sched_laws.specs.Planned.{items_read, read_from}
 use Rattle.strc_sched.specs.Reading.{count_of}
 use Rattle.strc_sched.specs.Serving.{IsServed, round_limit}
 

@@ -8,15 +8,15 @@ use Rattle.std.specs.Prelude.{Some, slice_get, slice_index, if◌then◌else◌}
 use Rattle.std.proofs.lemmas.Bool.{cases_eq}
 use Rattle.std.proofs.lemmas.List.{drop_more, get_or-set_same, get_or-set_other, length-map}
 use Rattle.std.proofs.lemmas.List.{get_or-map}
-use Rattle.strc_semantics.specs.declared.word.Word.{Word}
-use Rattle.strc_graph.specs.Graphs.{NodeCode, gives_words}
-use Rattle.strc_graph.specs.NodeView.{node_view}
-use Rattle.strc_graph.specs.declared.graph.Node.{Node}
-use Rattle.strc_refusal.specs.Tapes.{TapeView, tape}
-use Rattle.strc_admissible.specs.Machine.{words_at}
-use Rattle.strc_runner.specs.Running.{words_of}
-use Rattle.strc_runner.proofs.WordLists.{words_set}
-use Rattle.strc_graph.specs.Tapes.{tape_nodes_from}
+use Rattle.strc_work_meaning.specs.declared.word.Word.{Word}
+use Rattle.strc_elab_graph.specs.Graphs.{NodeCode, gives_words}
+use Rattle.strc_elab_graph.specs.NodeView.{node_view}
+use Rattle.strc_elab_graph.specs.declared.graph.Node.{Node}
+use Rattle.strc_sched_outcome.specs.Tapes.{TapeView, tape}
+use Rattle.strc_sched_laws.specs.Machine.{words_at}
+use Rattle.strc_sched_machine.specs.Running.{words_of}
+use Rattle.strc_sched_machine.proofs.WordLists.{words_set}
+use Rattle.strc_elab_graph.specs.Tapes.{tape_nodes_from}
 use Rattle.strc_sched.specs.Tapes.{AreMarked, tapes_from}
 use Rattle.std.specs.declared.vec.Vec.{Vec}
 use Rattle.std.specs.declared.alloc.Global.{Global}

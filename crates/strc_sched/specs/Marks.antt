@@ -1,10 +1,10 @@
 -- How many words each tape had when a round began.
 use Rattle.std.specs.Prelude.{◌≡◌, List, length, map, slice_index, take}
-use Rattle.strc_semantics.specs.declared.word.Word.{Word}
-use Rattle.strc_graph.specs.NodeView.{node_view}
-use Rattle.strc_refusal.specs.Tapes.{TapeView}
-use Rattle.strc_admissible.specs.Machine.{words_at}
-use Rattle.strc_graph.specs.Tapes.{tape_nodes_from}
+use Rattle.strc_work_meaning.specs.declared.word.Word.{Word}
+use Rattle.strc_elab_graph.specs.NodeView.{node_view}
+use Rattle.strc_sched_outcome.specs.Tapes.{TapeView}
+use Rattle.strc_sched_laws.specs.Machine.{words_at}
+use Rattle.strc_elab_graph.specs.Tapes.{tape_nodes_from}
 use Rattle.strc_sched.specs.Tapes.{tapes_of}
 use Rattle.strc_sched.specs.declared.tapes.Marks.{Marks}
 

@@ -2,29 +2,29 @@
 use Rattle.std.specs.Prelude.{◌≡◌, ℕ, ◌<◌, ◌≤◌, ℤ, List, [], length, map}
 use Rattle.std.specs.declared.vec.Vec.{Vec}
 use Rattle.std.specs.declared.alloc.Global.{Global}
-use Rattle.strc_dataflow.specs.Streams as trees
-use Rattle.strc_semantics.specs.declared.word.Word.{Word}
-use Rattle.strc_graph.specs.Graphs.{NodeCode, Graph}
-use Rattle.strc_graph.specs.FlatGraphs.{IsProgram}
-use Rattle.strc_schedule.specs.Schedules.{ScheduleParts}
-use Rattle.strc_admissible.specs.Circuits.{IsFirst}
-use Rattle.strc_admissible.specs.Laws.{counts_at, startup_order, round_order}
-use Rattle.strc_admissible.specs.Machine.{CircuitView, MachineView, whole_run}
-use Rattle.strc_admissible.specs.Machine.{Ending, Ended, FaultedAtFirst, FaultedIn, words_at}
-use Rattle.strc_admissible.specs.Planned.{items_read}
-use Rattle.strc_admissible.specs.RingAnswer.{IsAnswered}
-use Rattle.strc_refusal.specs.Tapes.{TapeView, tape_view}
-use Rattle.strc_refusal.specs.declared.outcome.Tape.{Tape}
-use Rattle.strc_refusal.specs.declared.outcome.Outcome.{Outcome}
-use Rattle.strc_refusal.specs.declared.outcome.Outcome.TheVariants as outcome
-use Rattle.strc_refusal.specs.declared.outcome.Round.{Round}
-use Rattle.strc_refusal.specs.declared.outcome.Round.TheVariants as round
-use Rattle.strc_runner.specs.Actors.{AreClosed}
+use Rattle.strc_elab_dataflow.specs.Streams as trees
+use Rattle.strc_work_meaning.specs.declared.word.Word.{Word}
+use Rattle.strc_elab_graph.specs.Graphs.{NodeCode, Graph}
+use Rattle.strc_elab_graph.specs.FlatGraphs.{IsProgram}
+use Rattle.strc_sched_orders.specs.Schedules.{ScheduleParts}
+use Rattle.strc_sched_laws.specs.Circuits.{IsFirst}
+use Rattle.strc_sched_laws.specs.Laws.{counts_at, startup_order, round_order}
+use Rattle.strc_sched_laws.specs.Machine.{CircuitView, MachineView, whole_run}
+use Rattle.strc_sched_laws.specs.Machine.{Ending, Ended, FaultedAtFirst, FaultedIn, words_at}
+use Rattle.strc_sched_laws.specs.Planned.{items_read}
+use Rattle.strc_sched_laws.specs.RingAnswer.{IsAnswered}
+use Rattle.strc_sched_outcome.specs.Tapes.{TapeView, tape_view}
+use Rattle.strc_sched_outcome.specs.declared.outcome.Tape.{Tape}
+use Rattle.strc_sched_outcome.specs.declared.outcome.Outcome.{Outcome}
+use Rattle.strc_sched_outcome.specs.declared.outcome.Outcome.TheVariants as outcome
+use Rattle.strc_sched_outcome.specs.declared.outcome.Round.{Round}
+use Rattle.strc_sched_outcome.specs.declared.outcome.Round.TheVariants as round
+use Rattle.strc_sched_machine.specs.Actors.{AreClosed}
 use Rattle.strc_sched.specs.Tapes.{tapes_of}
-use Rattle.strc_runner.specs.declared.machine.Stop.{Stop}
-use Rattle.strc_runner.specs.declared.machine.Stop.TheVariants as stop
-use Rattle.strc_refusal.specs.declared.run_refusal.RunRefusal.{RunRefusal}
-use Rattle.strc_refusal.specs.declared.run_refusal.RunRefusal.TheVariants as refused
+use Rattle.strc_sched_machine.specs.declared.machine.Stop.{Stop}
+use Rattle.strc_sched_machine.specs.declared.machine.Stop.TheVariants as stop
+use Rattle.strc_sched_outcome.specs.declared.run_refusal.RunRefusal.{RunRefusal}
+use Rattle.strc_sched_outcome.specs.declared.run_refusal.RunRefusal.TheVariants as refused
 
 -- tapes are those of nodes with these words
 abbrev pub AreTapesOf : List NodeCode → (words : ℕ → List Word) → List Tape → Type 0

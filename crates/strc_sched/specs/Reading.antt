@@ -1,6 +1,6 @@
 -- How many items of the program's input a run reads.
 use Rattle.std.specs.Prelude.{ℕ, ◌≤◌, ◌^◌, List, Option, Some, None}
-use Rattle.strc_schedule.specs.Order.{firing_count}
+use Rattle.strc_sched_orders.specs.Order.{firing_count}
 
 -- the count of a node, where there is one
 abbrev pub count_of : Option ℕ → (counts : ℕ → ℕ) → ℕ

@@ -1,10 +1,10 @@
 -- The tapes of a graph's nodes.
 use Rattle.std.specs.Prelude.{◌≡◌, ℕ, suc, List, [], ◌∷◌, Some, true, length, slice_get}
 use Rattle.std.specs.Prelude.{slice_index, if◌then◌else◌}
-use Rattle.strc_semantics.specs.declared.word.Word.{Word}
-use Rattle.strc_graph.specs.Graphs.{NodeCode, gives_words}
-use Rattle.strc_refusal.specs.Tapes.{TapeView, tape}
-use Rattle.strc_admissible.specs.Machine.{words_at}
+use Rattle.strc_work_meaning.specs.declared.word.Word.{Word}
+use Rattle.strc_elab_graph.specs.Graphs.{NodeCode, gives_words}
+use Rattle.strc_sched_outcome.specs.Tapes.{TapeView, tape}
+use Rattle.strc_sched_laws.specs.Machine.{words_at}
 
 -- a tape of each node that gives words, where the first of these nodes has this number
 abbrev pub tapes_from : (node : ℕ) → List NodeCode → (words : ℕ → List Word) → List TapeView

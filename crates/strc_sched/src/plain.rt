@@ -1,34 +1,34 @@
 // A run on one thread.
 
 ghost use Rattle.std.specs.Prelude.{◌≡◌, ◌≤◌, [], length, map, IfOk, IfErr};
-ghost use Rattle.strc_graph.specs.NodeView.{graph_view, node_view};
-ghost use Rattle.strc_schedule.specs.Greedy.{firings_of};
-ghost use Rattle.strc_admissible.specs.Circuits.{IsCircuit};
-ghost use Rattle.strc_admissible.specs.Machine as spec;
-ghost use Rattle.strc_admissible.specs.Planned.{IsPlanned};
-ghost use Rattle.strc_runner.specs.Actors.{AreStartable};
-ghost use Rattle.strc_rings.specs.Circuits.{circuit_view, IsReady};
+ghost use Rattle.strc_elab_graph.specs.NodeView.{graph_view, node_view};
+ghost use Rattle.strc_sched_orders.specs.Greedy.{firings_of};
+ghost use Rattle.strc_sched_laws.specs.Circuits.{IsCircuit};
+ghost use Rattle.strc_sched_laws.specs.Machine as spec;
+ghost use Rattle.strc_sched_laws.specs.Planned.{IsPlanned};
+ghost use Rattle.strc_sched_machine.specs.Actors.{AreStartable};
+ghost use Rattle.strc_sched_rings.specs.Circuits.{circuit_view, IsReady};
 ghost use Rattle.strc_sched.specs.Plain.{AnswersGraph, IsEnding, IsPlainRefusal, IsStopped};
 ghost use Rattle.strc_sched.specs.Plain.{need_of, ReportsRun};
 ghost use Rattle.strc_sched.specs.Marks.{IsMarks, kept_tapes};
-ghost use Rattle.strc_runner.specs.Running.{IsMachine, machine_view, words_of};
+ghost use Rattle.strc_sched_machine.specs.Running.{IsMachine, machine_view, words_of};
 ghost use Rattle.strc_sched.specs.Tapes.{AreMarked};
-ghost use Rattle.strc_runner.specs.Batches.{IsOrderOf, units_of};
-ghost use Rattle.strc_refusal.specs.declared.run_refusal.RunRefusal.TheVariants as refused;
+ghost use Rattle.strc_sched_machine.specs.Batches.{IsOrderOf, units_of};
+ghost use Rattle.strc_sched_outcome.specs.declared.run_refusal.RunRefusal.TheVariants as refused;
 
+use crate::needed_input::items_needed;
 use crate::outcome::{Outcome, Round};
-use crate::reading::items_needed;
 use crate::run_refusal::RunRefusal;
 use crate::tapes::Marks;
 use std::alloc::{AllocError, Global};
-use strc_graph::graph::{Graph, Node};
-use strc_runner::batches::Order;
-use strc_runner::circuit::Circuit;
-use strc_runner::machine::{Machine, Stop};
-use strc_runner::units::copy_units;
-use strc_schedule::parts::Schedule;
-use strc_schedule::unit::Unit;
-use strc_semantics::word::Word;
+use strc_elab_graph::graph::{Graph, Node};
+use strc_sched_machine::batches::Order;
+use strc_sched_machine::circuit::Circuit;
+use strc_sched_machine::machine::{Machine, Stop};
+use strc_sched_machine::units::copy_units;
+use strc_sched_orders::parts::Schedule;
+use strc_sched_orders::unit::Unit;
+use strc_work_meaning::word::Word;
 
 /// Start-up and so many rounds of a schedule, on one thread: each channel is a ring as large as
 /// the schedule says, and nodes fire over them in its order (Lee and Messerschmitt 1987: a periodic

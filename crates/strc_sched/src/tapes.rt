@@ -1,22 +1,22 @@
 // The tapes of a run: the words of each node that gives some.
 
 ghost use Rattle.std.specs.Prelude.{◌≡◌, ◌<◌, IfOk, [], length, map, take};
-ghost use Rattle.strc_graph.specs.NodeView.{node_view};
-ghost use Rattle.strc_graph.specs.Tapes.{tape_nodes_from};
-ghost use Rattle.strc_refusal.specs.Tapes.{tape, tape_view};
-ghost use Rattle.strc_admissible.specs.Machine.{words_at};
+ghost use Rattle.strc_elab_graph.specs.NodeView.{node_view};
+ghost use Rattle.strc_elab_graph.specs.Tapes.{tape_nodes_from};
+ghost use Rattle.strc_sched_outcome.specs.Tapes.{tape, tape_view};
+ghost use Rattle.strc_sched_laws.specs.Machine.{words_at};
 ghost use Rattle.strc_sched.specs.Marks.{IsMarks, kept_tapes};
-ghost use Rattle.strc_runner.specs.Running.{words_of};
+ghost use Rattle.strc_sched_machine.specs.Running.{words_of};
 ghost use Rattle.strc_sched.specs.Tapes.{AreMarked};
 
 use crate::outcome::Tape;
 use std::alloc::{AllocError, Global};
 use std::mem;
-use strc_base::memory::NoMemory;
-use strc_graph::graph::Node;
-use strc_graph::tapes::gives_words;
-use strc_schedule::limit::NUMBERED_NODES;
-use strc_semantics::word::Word;
+use strc_elab_graph::graph::Node;
+use strc_elab_graph::tapes::gives_words;
+use strc_lex_names::memory::NoMemory;
+use strc_sched_orders::limit::NUMBERED_NODES;
+use strc_work_meaning::word::Word;
 
 /// How many words each tape had when a round began.
 #[derive(Drop)]

@@ -1,48 +1,47 @@
--- The rounds after fission come to the answer of the program's stream equations.
-use Rattle.std.specs.Prelude.{◌≡◌, ℕ, ◌≤◌, ℤ, List, length}
-use Rattle.strc_dataflow.specs.Answer.{Outcome, IsAnswer}
-use Rattle.strc_dataflow.specs.Queues.{FifoProgress.FifoWent, fifo_go, fifo_at_first, fifo_rounds}
-use Rattle.strc_dataflow.specs.Streams as trees
-use Rattle.strc_semantics.specs.declared.fault.Cause.{Cause}
-use Rattle.strc_semantics.specs.declared.word.Word.{Word}
-use Rattle.strc_graph.specs.Graphs.{NodeCode, Graph, IsGraph}
-use Rattle.strc_graph.specs.FlatGraphs.{IsProgram}
-use Rattle.strc_graph.specs.Meaning.{node_meaning}
-use Rattle.strc_schedule.specs.Order.{firing_count}
-use Rattle.strc_schedule.specs.Schedules.{ScheduleParts}
-use Rattle.strc_admissible.specs.Fits.{Queues}
-use Rattle.strc_admissible.specs.Laws.{startup_order, round_order, counts_at}
-use Rattle.strc_admissible.specs.Planned.{IsPlanned, AreKnown, items_read}
-use Rattle.strc_dataflow.specs.Runs.{IsSameOutcome}
-use Rattle.strc_dataflow.specs.Split.{Parts}
-use Rattle.strc_fuse.specs.Units.{round_units}
-use Rattle.strc_fiss.specs.Laws.{AreOwn}
-use Rattle.strc_fiss.specs.Ways.{fission_of}
-use Rattle.strc_stage.specs.SplitLaws.{split_order}
-use Rattle.strc_stage.specs.Runs.{graph_before, graph_after, parts_of, dealt_from}
+-- Outcomes as answers of the stream equations.
+use Rattle.std.specs.Prelude.{◌≡◌, ℕ, ℤ, List, []}
+use Rattle.strc_elab_dataflow.specs.Answer as flow
+use Rattle.strc_elab_dataflow.specs.Answer.{Outcome.Done, Outcome.StartupFault, Outcome.RoundFault}
+use Rattle.strc_elab_dataflow.specs.Machine.{Stop}
+use Rattle.strc_elab_dataflow.specs.Streams as trees
+use Rattle.strc_work_meaning.specs.declared.fault.Cause.{Cause}
+use Rattle.strc_work_meaning.specs.declared.word.Word.{Word}
+use Rattle.strc_elab_graph.specs.FlatGraphs.{IsProgram}
+use Rattle.strc_elab_graph.specs.Graphs.{NodeCode}
+use Rattle.strc_sched_outcome.specs.declared.outcome.Outcome.{Outcome}
+use Rattle.strc_sched_outcome.specs.declared.outcome.Outcome.TheVariants as outcome
+use Rattle.strc_sched_outcome.specs.declared.outcome.Round.TheVariants as round
+use Rattle.strc_sched.specs.Plain.{AreTapesOf}
+use Rattle.strc_stage_plan.specs.Plans.{PlanParts, graph_of}
+use Rattle.strc_stage_steps.specs.Plans.{IsPlanAnswer}
 
--- an outcome is an answer of a tree's equations at the counts and orders of a schedule, but for the
--- names of nodes and parts
-pub record ComesToAnswer (tree : trees.Stream NodeCode) (schedule : ScheduleParts)
-    (input : List ℤ) (rounds : ℕ) (parts : Parts) (outcome : Outcome Cause Word) : Type 0 where
-  pub answer : Outcome Cause Word
-  pub is_answer : IsAnswer node_meaning tree input (firing_count (startup_order schedule))
-      (firing_count (round_order schedule)) (startup_order schedule) (round_order schedule)
-      rounds answer
-  pub same : IsSameOutcome parts answer outcome
+-- What the stream equations answer.
+abbrev pub Answer : Type 0
+Answer = flow.Outcome Cause Word
 
--- After start-up the rounds of a program's graph after fission come to the answer.
-abbrev pub FissionKeepsAnswers : Type 0
-FissionKeepsAnswers =
-    (tree : trees.Stream NodeCode) (old : Graph) (schedule : ScheduleParts) (round : List ℕ)
-    (ways : ℕ) (input : List ℤ) (rounds : ℕ) (started : Queues)
-    → IsProgram tree old → IsGraph old → IsPlanned old schedule → AreKnown old
-    → AreOwn (fission_of old round ways) (round_units schedule.round)
-    → items_read old.nodes (counts_at schedule rounds) ≤ length input
-    → fifo_go node_meaning (graph_before tree old schedule round ways) (startup_order schedule)
-    (fifo_at_first node_meaning (graph_before tree old schedule round ways) input)
-    ≡ FifoWent started
-    → ComesToAnswer tree schedule input rounds (parts_of tree old schedule round ways)
-    (fifo_rounds node_meaning (graph_after tree old schedule round ways) input
-    (split_order old schedule round ways) rounds 0
-    (dealt_from tree old schedule round ways started))
+abbrev pub stop_at : (node firing : ℕ) → Cause → Stop Cause
+stop_at node firing cause = record { node = node; firing = firing; cause = cause }
+
+-- An outcome of nodes is an answer: each tape has the words of its node; or it is the same fault,
+-- in start-up without words, in a round with the words before it.
+abbrev pub IsTold : List NodeCode → Answer → Outcome → Type 0
+IsTold codes (Done words) (outcome.Done tapes) = AreTapesOf codes words tapes.items
+IsTold codes (StartupFault stop) (outcome.Fault node firing round.Startup cause tapes) =
+    (stop ≡ stop_at node firing cause) × AreTapesOf codes (λ _. []) tapes.items
+IsTold codes (RoundFault q stop words) (outcome.Fault node firing (round.At number) cause tapes) =
+    (q ≡ number) × (stop ≡ stop_at node firing cause) × AreTapesOf codes words tapes.items
+IsTold codes _ _ = ⊥
+
+-- It is the answer of a tree's stream equations at the counts and in the orders of a plan, by the
+-- nodes of the plan's graph before fission.
+pub record IsOutcomeOf (tree : trees.Stream NodeCode) (plan : PlanParts) (input : List ℤ)
+    (rounds : ℕ) (outcome : Outcome) : Type 0 where
+  pub answer : Answer
+  pub is_answer : IsPlanAnswer tree plan input rounds answer
+  pub told : IsTold (graph_of plan).nodes answer outcome
+
+-- Of whatever program the graph is.
+abbrev pub AnswersPlan : PlanParts → (input : List ℤ) → (rounds : ℕ) → Outcome → Type 0
+AnswersPlan plan input rounds outcome =
+    (tree : trees.Stream NodeCode) → IsProgram tree (graph_of plan)
+    → IsOutcomeOf tree plan input rounds outcome

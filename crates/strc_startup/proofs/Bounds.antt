@@ -6,8 +6,8 @@ use Rattle.std.proofs.Common.{subst, arith, Option, Some, None, slice_get, cond}
 use Rattle.std.specs.List.{All}
 use Rattle.std.specs.Option.{option_map_or}
 use Rattle.std.proofs.lemmas.List.{get_or-map, length-map}
-use Rattle.strc_graph.specs.Graphs.{NodeCode, Channel, Graph, IsGraph}
-use Rattle.strc_graph.specs.Rates.{pushes_at}
+use Rattle.strc_elab_graph.specs.Graphs.{NodeCode, Channel, Graph, IsGraph}
+use Rattle.strc_elab_graph.specs.Rates.{pushes_at}
 use Rattle.strc_balance.specs.Balance.{count_at, IsWithinLimit}
 use Rattle.strc_balance.specs.Rates.{IsRated, equation_of, equations_of, pushes_by_work}
 use Rattle.strc_balance.specs.Rates.{fires_by_rounds, size_of}

@@ -1,10 +1,10 @@
 -- Small graphs, and their start-up counts.
 use Rattle.std.specs.Prelude.{ℕ, [], ◌∷◌, None}
-use Rattle.strc_syntax.specs.Tree as tree
-use Rattle.strc_syntax.specs.declared.tree.ItemType.TheVariants.{Int}
-use Rattle.strc_syntax.specs.declared.tree.RateKind.TheVariants as rate
-use Rattle.strc_graph.specs.Graphs as graphs
-use Rattle.strc_graph.specs.Graphs.{NodeCode, Graph}
+use Rattle.strc_parse_tree.specs.Tree as tree
+use Rattle.strc_parse_tree.specs.declared.tree.ItemType.TheVariants.{Int}
+use Rattle.strc_parse_tree.specs.declared.tree.RateKind.TheVariants as rate
+use Rattle.strc_elab_graph.specs.Graphs as graphs
+use Rattle.strc_elab_graph.specs.Graphs.{NodeCode, Graph}
 use Rattle.strc_balance.specs.Examples.{declared, filter, with_prework, link}
 use Rattle.strc_startup.specs.Startup.{IsLeast}
 use Rattle.strc_startup.specs.Rates.{first_counts, rates_of}

@@ -2,11 +2,11 @@
 use Rattle.std.specs.Prelude.{ℕ, Bool, false, List, map, length, slice_get, is_some}
 use Rattle.std.specs.Prelude.{if◌then◌else◌}
 use Rattle.std.specs.Option.{option_map_or}
-use Rattle.strc_semantics.specs.Filters.{prework_block}
-use Rattle.strc_graph.specs.Graphs as graphs
-use Rattle.strc_graph.specs.Graphs.{NodeCode, CopiedCode, Channel, Graph}
-use Rattle.strc_graph.specs.Rates.{window_at, pops_at, pushes_at}
-use Rattle.strc_graph.specs.declared.graph.Port.{Port}
+use Rattle.strc_work_meaning.specs.Filters.{prework_block}
+use Rattle.strc_elab_graph.specs.Graphs as graphs
+use Rattle.strc_elab_graph.specs.Graphs.{NodeCode, CopiedCode, Channel, Graph}
+use Rattle.strc_elab_graph.specs.Rates.{window_at, pops_at, pushes_at}
+use Rattle.strc_elab_graph.specs.declared.graph.Port.{Port}
 use Rattle.strc_startup.specs.declared.channel_rates.ChannelRates.{ChannelRates}
 
 -- whether what is copied has a prework

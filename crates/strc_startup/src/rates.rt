@@ -2,15 +2,15 @@
 
 ghost use Rattle.std.specs.Prelude.{◌≡◌, ◌<◌, ◌≤◌, ◌^◌, All, IfOk, length, map};
 ghost use Rattle.strc_balance.specs.Rates.{IsRated, equations_of};
-ghost use Rattle.strc_graph.specs.Graphs.{JoinsPorts};
-ghost use Rattle.strc_graph.specs.NodeView.{graph_view, node_view, copied_view, channel_view};
+ghost use Rattle.strc_elab_graph.specs.Graphs.{JoinsPorts};
+ghost use Rattle.strc_elab_graph.specs.NodeView.{graph_view, node_view, copied_view, channel_view};
 ghost use Rattle.strc_startup.specs.Rates as spec;
 ghost use Rattle.strc_startup.specs.Waiting.{HasEnds, IsBounded, Pushes};
 
 use crate::channel_rates::ChannelRates;
 use std::alloc::{AllocError, Global};
-use strc_graph::graph::{Channel, Copied, Graph, Node};
-use strc_graph::rates::{pops_at, pushes_at, window_at};
+use strc_elab_graph::graph::{Channel, Copied, Graph, Node};
+use strc_elab_graph::rates::{pops_at, pushes_at, window_at};
 
 /// The rates of each channel of a graph; at both ends they are at least 1 by `work`.
 pub fn channel_rates(alloc: Global, graph: &Graph) -> Result<Vec<ChannelRates>, AllocError>

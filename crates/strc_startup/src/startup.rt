@@ -1,7 +1,7 @@
 // How often each node of a graph fires before the first round.
 
 ghost use Rattle.std.specs.Prelude.{◌≡◌, ℕ, List, Err, All, IfOk, length};
-ghost use Rattle.strc_graph.specs.NodeView.{graph_view};
+ghost use Rattle.strc_elab_graph.specs.NodeView.{graph_view};
 ghost use Rattle.strc_balance.specs.Balance.{IsWithinLimit};
 ghost use Rattle.strc_balance.specs.Rates.{IsRated, equations_of};
 ghost use Rattle.strc_startup.specs.Rates as spec;
@@ -9,11 +9,11 @@ ghost use Rattle.strc_startup.specs.Startup.{IsPrimed, IsLeast};
 ghost use Rattle.strc_startup.specs.declared.error.StartupError.TheVariants as refused;
 
 use crate::error::StartupError;
-use crate::priming::primed;
+use crate::prime_counts::primed;
 use crate::rates::{channel_rates, first_counts};
 use std::alloc::Global;
 use strc_balance::counts::Counts;
-use strc_graph::graph::Graph;
+use strc_elab_graph::graph::Graph;
 
 /// The least counts at which the nodes of a graph fire before the first round, so that in each
 /// round each node finds what it looks at.

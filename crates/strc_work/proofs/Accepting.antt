@@ -1,12 +1,12 @@
 -- Where a walk of tests is Ok, and what holds there.
 use Rattle.std.proofs.Common.{◌≡◌, Bool, true, false, not, Result, Ok, Err, IsOk, is_ok, refl, ap}
-use Rattle.strc_base.specs.Results.{result_and_then}
-use Rattle.strc_check.specs.declared.error.LowerError.{LowerError}
-use Rattle.strc_semantics.specs.declared.types.ValueType.{ValueType}
-use Rattle.strc_semantics.specs.declared.types.ValueType.TheVariants.{Int, Boolean, Array}
-use Rattle.strc_semantics.specs.Typing.{same_type}
-use Rattle.strc_check.specs.Resolution.{where_kept}
-use Rattle.strc_check.proofs.ResolvingExpressions.{Gives}
+use Rattle.strc_lex_names.specs.Results.{result_and_then}
+use Rattle.strc_work_rules.specs.declared.error.LowerError.{LowerError}
+use Rattle.strc_work_meaning.specs.declared.types.ValueType.{ValueType}
+use Rattle.strc_work_meaning.specs.declared.types.ValueType.TheVariants.{Int, Boolean, Array}
+use Rattle.strc_work_meaning.specs.Typing.{same_type}
+use Rattle.strc_work_rules.specs.Resolution.{where_kept}
+use Rattle.strc_work_rules.proofs.ResolvingExpressions.{Gives}
 
 -- a test that is kept holds of what follows
 pub kept_gives : {B : Type 0} (Q : B → Type 0) (kept : Bool) (next : Result B LowerError)

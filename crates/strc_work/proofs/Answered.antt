@@ -3,18 +3,20 @@ use Rattle.std.proofs.Common.{◌≡◌, ℕ, ◌<◌, ◌||◌, Bool, true, fal
 use Rattle.std.proofs.Common.{refl, sym, ap, ◌∙◌, subst}
 use Rattle.std.specs.Prelude.{unwrap_or, bytes_eq}
 use Rattle.std.proofs.lemmas.Bool.{false≢true}
-use Rattle.strc_base.specs.Results.{result_and_then}
-use Rattle.strc_syntax.specs.Tree as tree
-use Rattle.strc_semantics.specs.Arithmetic.{is_true}
-use Rattle.strc_semantics.specs.Scoping.{Scope, answer_name, cells_of, with_declared, names_after}
-use Rattle.strc_semantics.specs.Scoping.{total, is_declared, slot_named, slot_of, size_named}
-use Rattle.strc_semantics.specs.Scoping.{size_of}
-use Rattle.strc_semantics.specs.Returns.{stmt_returns, stmts_return, variables_shadow, stmt_shadows}
-use Rattle.strc_semantics.specs.Returns.{stmts_shadow}
-use Rattle.strc_semantics.specs.Closed.{IsNamed, IsClosedStmt, AreClosed}
-use Rattle.strc_semantics.specs.Firing.{Setting, Store, has_returned, stmt_done}
-use Rattle.strc_code.specs.Nodes.{Machine, Nodes, End, slot_value, chosen_by, nodes_done}
-use Rattle.strc_code.specs.Lowering.{stmt_nodes, stmts_nodes, unless_answered}
+use Rattle.strc_lex_names.specs.Results.{result_and_then}
+use Rattle.strc_parse_tree.specs.Tree as tree
+use Rattle.strc_work_meaning.specs.Arithmetic.{is_true}
+use Rattle.strc_work_meaning.specs.Scoping.{Scope, answer_name, cells_of, with_declared}
+use Rattle.strc_work_meaning.specs.Scoping.{names_after}
+use Rattle.strc_work_meaning.specs.Scoping.{total, is_declared, slot_named, slot_of, size_named}
+use Rattle.strc_work_meaning.specs.Scoping.{size_of}
+use Rattle.strc_work_meaning.specs.Returns.{stmt_returns, stmts_return, variables_shadow}
+use Rattle.strc_work_meaning.specs.Returns.{stmt_shadows}
+use Rattle.strc_work_meaning.specs.Returns.{stmts_shadow}
+use Rattle.strc_work_meaning.specs.Closed.{IsNamed, IsClosedStmt, AreClosed}
+use Rattle.strc_work_meaning.specs.Firing.{Setting, Store, has_returned, stmt_done}
+use Rattle.strc_work_code.specs.Nodes.{Machine, Nodes, End, slot_value, chosen_by, nodes_done}
+use Rattle.strc_work_code.specs.Lowering.{stmt_nodes, stmts_nodes, unless_answered}
 use Rattle.strc_work.proofs.Variables.{scope_of}
 use Rattle.strc_work.proofs.Related.{then_end}
 

@@ -2,30 +2,31 @@
 use Rattle.std.proofs.Common.{◌≡◌, ◌≢◌, ℕ, ◌+◌, ◌<◌, ◌≤◌, true, ℤ, pos, ◌+ℤ◌, List, length, set}
 use Rattle.std.proofs.Common.{Option, Some, None, Result, Ok, Err, refl, sym, ap, ◌∙◌, subst, arith}
 use Rattle.std.proofs.lemmas.List.{get_or-set_same, get_or-set_other, length-set}
-use Rattle.strc_base.specs.Results.{result_and_then}
-use Rattle.strc_syntax.specs.Tree as tree
-use Rattle.strc_syntax.specs.declared.tree.AssignOperator.{AssignOperator}
-use Rattle.strc_syntax.specs.declared.tree.AssignOperator.TheVariants as assign
-use Rattle.strc_syntax.specs.declared.tree.BinaryOperator.{BinaryOperator}
-use Rattle.strc_syntax.specs.declared.tree.BinaryOperator.TheVariants as binary
-use Rattle.strc_semantics.specs.declared.fault.Cause.{Cause}
-use Rattle.strc_semantics.specs.declared.fault.Cause.TheVariants.{Index}
-use Rattle.strc_code.specs.declared.inst.Inst.TheVariants as act
-use Rattle.strc_semantics.specs.Arithmetic.{wrapped, binary_value}
-use Rattle.strc_semantics.specs.Scoping.{Scope, total, slot_of, size_of}
-use Rattle.strc_semantics.specs.Closed.{IsNamed, IsClosed}
-use Rattle.strc_semantics.specs.Firing.{Setting, Store, cells_named, cell_in, value_in}
-use Rattle.strc_semantics.specs.Firing.{with_cell}
-use Rattle.strc_semantics.specs.Firing.{cell_set, assigned, assigned_value, place_in, tested_place}
-use Rattle.strc_semantics.specs.Firing.{place_of, element_joined, element_set, value_of}
-use Rattle.strc_code.specs.Nodes.{Machine, Act, before, slot_value, slot_written, inst_done}
-use Rattle.strc_code.specs.Nodes.{nodes_done, nodes_room}
-use Rattle.strc_code.specs.Lowering.{writes_no_variable, one, binary_step, operand_slot}
-use Rattle.strc_code.specs.Lowering.{operand_nodes, compound_nodes, element_nodes}
+use Rattle.strc_lex_names.specs.Results.{result_and_then}
+use Rattle.strc_parse_tree.specs.Tree as tree
+use Rattle.strc_parse_tree.specs.declared.tree.AssignOperator.{AssignOperator}
+use Rattle.strc_parse_tree.specs.declared.tree.AssignOperator.TheVariants as assign
+use Rattle.strc_parse_tree.specs.declared.tree.BinaryOperator.{BinaryOperator}
+use Rattle.strc_parse_tree.specs.declared.tree.BinaryOperator.TheVariants as binary
+use Rattle.strc_work_meaning.specs.declared.fault.Cause.{Cause}
+use Rattle.strc_work_meaning.specs.declared.fault.Cause.TheVariants.{Index}
+use Rattle.strc_work_code.specs.declared.inst.Inst.TheVariants as act
+use Rattle.strc_work_meaning.specs.Arithmetic.{wrapped, binary_value}
+use Rattle.strc_work_meaning.specs.Scoping.{Scope, total, slot_of, size_of}
+use Rattle.strc_work_meaning.specs.Closed.{IsNamed, IsClosed}
+use Rattle.strc_work_meaning.specs.Firing.{Setting, Store, cells_named, cell_in, value_in}
+use Rattle.strc_work_meaning.specs.Firing.{with_cell}
+use Rattle.strc_work_meaning.specs.Firing.{cell_set, assigned, assigned_value, place_in}
+use Rattle.strc_work_meaning.specs.Firing.{tested_place}
+use Rattle.strc_work_meaning.specs.Firing.{place_of, element_joined, element_set, value_of}
+use Rattle.strc_work_code.specs.Nodes.{Machine, Act, before, slot_value, slot_written, inst_done}
+use Rattle.strc_work_code.specs.Nodes.{nodes_done, nodes_room}
+use Rattle.strc_work_code.specs.Lowering.{writes_no_variable, one, binary_step, operand_slot}
+use Rattle.strc_work_code.specs.Lowering.{operand_nodes, compound_nodes, element_nodes}
 use Rattle.strc_work.proofs.Variables.{scope_of, at, Holds, Holds-set_above, Holds-assigned}
 use Rattle.strc_work.proofs.Variables.{scope_of-with_cell}
 use Rattle.strc_work.proofs.Related.{Related, then_related, nodes_done-before, then_last}
-use Rattle.strc_code.proofs.Spelled.{nodes_room-before}
+use Rattle.strc_work_code.proofs.Spelled.{nodes_room-before}
 use Rattle.strc_work.proofs.Standing.{Stands}
 use Rattle.strc_work.proofs.Expressions.{Arrives, IsInSlot, Ready, machine_at, named_size}
 use Rattle.strc_work.proofs.Expressions.{machine_is, named_cell, named_value, operand_runs}

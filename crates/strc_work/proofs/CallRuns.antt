@@ -5,20 +5,22 @@ use Rattle.std.proofs.Common.{arith, length-append, append_assoc}
 use Rattle.std.proofs.lemmas.List.{length-take-le, length-drop, get_or-drop}
 use Rattle.std.proofs.lemmas.List.{get_or_append_left, get_or-append-add}
 use Rattle.std.proofs.Math.Seq.{drop-cons}
-use Rattle.strc_base.specs.Results.{result_and_then}
-use Rattle.strc_syntax.specs.Tree as tree
-use Rattle.strc_semantics.specs.declared.fault.Cause.{Cause}
-use Rattle.strc_semantics.specs.Scoping.{Scope, total}
-use Rattle.strc_semantics.specs.Closed.{AreClosedArguments}
-use Rattle.strc_semantics.specs.Firing.{Setting, Store, Called, Variables, value_of, values_of}
-use Rattle.strc_semantics.specs.Firing.{arguments_given, fields_in, refilled, revalued, call_done}
-use Rattle.strc_semantics.proofs.Calls.{length-refilled, scope_of-revalued, scope_of-outer}
-use Rattle.strc_semantics.proofs.Calls.{scope_of-after_call}
-use Rattle.strc_code.specs.Nodes.{Machine, End, Call, before, after_call, call_made, nodes_done}
-use Rattle.strc_code.specs.Nodes.{nodes_room}
-use Rattle.strc_code.specs.Lowering.{expr_nodes, arguments_nodes}
-use Rattle.strc_semantics.specs.Calls.{argument_count}
-use Rattle.strc_code.proofs.Spelled.{nodes_room-before}
+use Rattle.strc_lex_names.specs.Results.{result_and_then}
+use Rattle.strc_parse_tree.specs.Tree as tree
+use Rattle.strc_work_meaning.specs.declared.fault.Cause.{Cause}
+use Rattle.strc_work_meaning.specs.Scoping.{Scope, total}
+use Rattle.strc_work_meaning.specs.Closed.{AreClosedArguments}
+use Rattle.strc_work_meaning.specs.Firing.{Setting, Store, Called, Variables, value_of, values_of}
+use Rattle.strc_work_meaning.specs.Firing.{arguments_given, fields_in, refilled, revalued}
+use Rattle.strc_work_meaning.specs.Firing.{call_done}
+use Rattle.strc_work_meaning.proofs.Calls.{length-refilled, scope_of-revalued, scope_of-outer}
+use Rattle.strc_work_meaning.proofs.Calls.{scope_of-after_call}
+use Rattle.strc_work_code.specs.Nodes.{Machine, End, Call, before, after_call, call_made}
+use Rattle.strc_work_code.specs.Nodes.{nodes_done}
+use Rattle.strc_work_code.specs.Nodes.{nodes_room}
+use Rattle.strc_work_code.specs.Lowering.{expr_nodes, arguments_nodes}
+use Rattle.strc_work_meaning.specs.Calls.{argument_count}
+use Rattle.strc_work_code.proofs.Spelled.{nodes_room-before}
 use Rattle.strc_work.proofs.Variables.{scope_of, at, Holds, Holds-drop, length-scope_of}
 use Rattle.strc_work.proofs.Variables.{scope_of-drop, values-Holds}
 use Rattle.strc_work.proofs.Standing.{Stands, total-drop, cells_below}

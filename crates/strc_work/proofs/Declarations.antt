@@ -5,18 +5,18 @@ use Rattle.std.proofs.Common.{◌∙◌, subst, arith, length-append}
 use Rattle.std.proofs.lemmas.List.{get_or-set_same, length-set, length-take-le, length-replicate}
 use Rattle.std.proofs.lemmas.List.{length-drop, get_or_append_left, get_or-append-add, get_or-take}
 use Rattle.std.proofs.lemmas.List.{get_or-replicate}
-use Rattle.strc_base.specs.Results.{result_and_then}
-use Rattle.strc_syntax.specs.Tree as tree
-use Rattle.strc_semantics.specs.declared.fault.Cause.{Cause}
-use Rattle.strc_semantics.specs.Scoping.{Scope, total, with_declared}
-use Rattle.strc_semantics.specs.Closed.{IsClosedInitial, FitsInitial, AreClosedVariables}
-use Rattle.strc_semantics.specs.Firing.{Setting, Store, value_of, declared_in, initial_cells}
-use Rattle.strc_semantics.specs.Firing.{variables_declared}
-use Rattle.strc_code.specs.Nodes.{Machine, cleared, nodes_done, nodes_room}
-use Rattle.strc_code.specs.Lowering.{expr_nodes, initial_nodes, variables_nodes}
+use Rattle.strc_lex_names.specs.Results.{result_and_then}
+use Rattle.strc_parse_tree.specs.Tree as tree
+use Rattle.strc_work_meaning.specs.declared.fault.Cause.{Cause}
+use Rattle.strc_work_meaning.specs.Scoping.{Scope, total, with_declared}
+use Rattle.strc_work_meaning.specs.Closed.{IsClosedInitial, FitsInitial, AreClosedVariables}
+use Rattle.strc_work_meaning.specs.Firing.{Setting, Store, value_of, declared_in, initial_cells}
+use Rattle.strc_work_meaning.specs.Firing.{variables_declared}
+use Rattle.strc_work_code.specs.Nodes.{Machine, cleared, nodes_done, nodes_room}
+use Rattle.strc_work_code.specs.Lowering.{expr_nodes, initial_nodes, variables_nodes}
 use Rattle.strc_work.proofs.Variables.{scope_of, at, HoldsFrom, Holds, Holds-same, Holds-set_above}
 use Rattle.strc_work.proofs.Related.{Related, then_related, map_related, nodes_done-before}
-use Rattle.strc_code.proofs.Spelled.{nodes_room-before}
+use Rattle.strc_work_code.proofs.Spelled.{nodes_room-before}
 use Rattle.strc_work.proofs.Standing.{Stands, stands_declared}
 use Rattle.strc_work.proofs.Expressions.{Arrives, Ready, machine_at, expr_room}
 use Rattle.strc_work.proofs.ExpressionRuns.{expr_runs}

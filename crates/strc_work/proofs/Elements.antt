@@ -5,28 +5,30 @@ use Rattle.std.proofs.Common.{sym, ap, ◌∙◌, subst, arith}
 use Rattle.std.specs.Prelude.{unwrap_or, nat_lt}
 use Rattle.std.proofs.lemmas.List.{get_or-set_same, get_or-set_other, length-set}
 use Rattle.std.proofs.lemmas.Bool.{ltb-true}
-use Rattle.strc_base.specs.Results.{result_and_then}
-use Rattle.strc_syntax.specs.Tree as tree
-use Rattle.strc_syntax.specs.declared.tree.StepOperator.{StepOperator}
-use Rattle.strc_syntax.specs.declared.tree.StepOperator.TheVariants as step
-use Rattle.strc_semantics.specs.declared.fault.Cause.{Cause}
-use Rattle.strc_semantics.specs.declared.fault.Cause.TheVariants.{Index}
-use Rattle.strc_code.specs.declared.inst.Inst.TheVariants as act
-use Rattle.strc_semantics.specs.Arithmetic.{wrapped}
-use Rattle.strc_semantics.specs.Scoping.{Scope, total, slot_of, size_of}
-use Rattle.strc_semantics.specs.Closed.{IsNamed, IsClosed}
-use Rattle.strc_semantics.specs.Firing.{Setting, Store, cells_named, cell_in, with_cell}
-use Rattle.strc_semantics.specs.Firing.{cell_set}
-use Rattle.strc_semantics.specs.Firing.{place_in, tested_place, place_of, value_stepped, step_value}
-use Rattle.strc_semantics.specs.Firing.{value_of}
-use Rattle.strc_code.specs.Nodes.{Machine, Act, before, slot_value, slot_written, inst_done}
-use Rattle.strc_code.specs.Nodes.{nodes_done, nodes_room}
-use Rattle.strc_code.specs.Lowering.{alias_slot, one, step_amount, step_result, element_step_nodes}
-use Rattle.strc_code.specs.Lowering.{operand_slot, operand_nodes}
+use Rattle.strc_lex_names.specs.Results.{result_and_then}
+use Rattle.strc_parse_tree.specs.Tree as tree
+use Rattle.strc_parse_tree.specs.declared.tree.StepOperator.{StepOperator}
+use Rattle.strc_parse_tree.specs.declared.tree.StepOperator.TheVariants as step
+use Rattle.strc_work_meaning.specs.declared.fault.Cause.{Cause}
+use Rattle.strc_work_meaning.specs.declared.fault.Cause.TheVariants.{Index}
+use Rattle.strc_work_code.specs.declared.inst.Inst.TheVariants as act
+use Rattle.strc_work_meaning.specs.Arithmetic.{wrapped}
+use Rattle.strc_work_meaning.specs.Scoping.{Scope, total, slot_of, size_of}
+use Rattle.strc_work_meaning.specs.Closed.{IsNamed, IsClosed}
+use Rattle.strc_work_meaning.specs.Firing.{Setting, Store, cells_named, cell_in, with_cell}
+use Rattle.strc_work_meaning.specs.Firing.{cell_set}
+use Rattle.strc_work_meaning.specs.Firing.{place_in, tested_place, place_of, value_stepped}
+use Rattle.strc_work_meaning.specs.Firing.{step_value}
+use Rattle.strc_work_meaning.specs.Firing.{value_of}
+use Rattle.strc_work_code.specs.Nodes.{Machine, Act, before, slot_value, slot_written, inst_done}
+use Rattle.strc_work_code.specs.Nodes.{nodes_done, nodes_room}
+use Rattle.strc_work_code.specs.Lowering.{alias_slot, one, step_amount, step_result}
+use Rattle.strc_work_code.specs.Lowering.{element_step_nodes}
+use Rattle.strc_work_code.specs.Lowering.{operand_slot, operand_nodes}
 use Rattle.strc_work.proofs.Variables.{scope_of, Holds, Holds-set_above, Holds-with_cell}
 use Rattle.strc_work.proofs.Variables.{scope_of-with_cell}
 use Rattle.strc_work.proofs.Related.{Related, then_related, nodes_done-before, then_last}
-use Rattle.strc_code.proofs.Spelled.{nodes_room-before}
+use Rattle.strc_work_code.proofs.Spelled.{nodes_room-before}
 use Rattle.strc_work.proofs.Expressions.{Arrives, IsInSlot, Ready, machine_at, Runs, named_slots}
 use Rattle.strc_work.proofs.Expressions.{named_size, named_cell, variable_runs, aliased_slot}
 use Rattle.strc_work.proofs.Expressions.{operand_runs}

@@ -2,15 +2,15 @@
 use Rattle.std.proofs.Common.{◌≡◌, ℤ, Bool, true, false, ◌&&◌, List, [], ◌∷◌, Result, Ok, Err}
 use Rattle.std.proofs.Common.{pos, IsOk, is_ok, not, refl, ap, subst}
 use Rattle.std.specs.Int.{int_wrap}
-use Rattle.strc_syntax.specs.Tree as tree
-use Rattle.strc_semantics.specs.Filters.{Filter}
-use Rattle.strc_check.specs.declared.error.LowerError.{LowerError}
-use Rattle.strc_semantics.specs.declared.types.ValueType.{ValueType}
-use Rattle.strc_semantics.specs.Typing.{same_type}
-use Rattle.strc_check.specs.Resolution.{Context, Typed, expr_resolved, stmt_resolved}
-use Rattle.strc_check.specs.Resolution.{filter_resolved, number_resolved, rate_context}
-use Rattle.strc_check.specs.Resolution.{init_context}
-use Rattle.strc_check.proofs.ResolvingStatements.{Gives}
+use Rattle.strc_parse_tree.specs.Tree as tree
+use Rattle.strc_work_meaning.specs.Filters.{Filter}
+use Rattle.strc_work_rules.specs.declared.error.LowerError.{LowerError}
+use Rattle.strc_work_meaning.specs.declared.types.ValueType.{ValueType}
+use Rattle.strc_work_meaning.specs.Typing.{same_type}
+use Rattle.strc_work_rules.specs.Resolution.{Context, Typed, expr_resolved, stmt_resolved}
+use Rattle.strc_work_rules.specs.Resolution.{filter_resolved, number_resolved, rate_context}
+use Rattle.strc_work_rules.specs.Resolution.{init_context}
+use Rattle.strc_work_rules.proofs.ResolvingStatements.{Gives}
 use Rattle.strc_work.specs.Expressions.{HasType}
 use Rattle.strc_work.specs.Numbers.{HasNumber}
 use Rattle.strc_work.specs.Examples.{example_names, example_constants, HaveTypes, HaveNoType}

@@ -4,31 +4,33 @@ use Rattle.std.proofs.Common.{length, set, Option, Some, None, Result, Ok, Err, 
 use Rattle.std.proofs.Common.{subst, arith}
 use Rattle.std.specs.Prelude.{unwrap_or}
 use Rattle.std.proofs.lemmas.List.{get_or-set_same, get_or-set_other, length-set}
-use Rattle.strc_base.specs.Results.{result_and_then}
-use Rattle.strc_syntax.specs.Tree as tree
-use Rattle.strc_syntax.specs.declared.tree.UnaryOperator.{UnaryOperator}
-use Rattle.strc_syntax.specs.declared.tree.UnaryOperator.TheVariants as unary
-use Rattle.strc_syntax.specs.declared.tree.BinaryOperator.{BinaryOperator}
-use Rattle.strc_syntax.specs.declared.tree.BinaryOperator.TheVariants as binary
-use Rattle.strc_syntax.specs.declared.tree.StepOperator.{StepOperator}
-use Rattle.strc_syntax.specs.declared.tree.StepOperator.TheVariants as step
-use Rattle.strc_semantics.specs.declared.fault.Cause.{Cause}
-use Rattle.strc_code.specs.declared.inst.Inst.TheVariants as act
-use Rattle.strc_semantics.specs.Arithmetic.{wrapped, truth, is_true, unary_value, binary_value}
-use Rattle.strc_semantics.specs.Scoping.{Scope, total, slot_of}
-use Rattle.strc_semantics.specs.Closed.{IsNamed, IsClosed}
-use Rattle.strc_semantics.specs.Firing.{Port, Setting, Store, Traffic, value_in, joined, value_of}
-use Rattle.strc_semantics.specs.Firing.{popped_from, peeked_from, assigned, with_cell}
-use Rattle.strc_code.specs.Nodes.{Machine, Nodes, End, Choice, before, slot_value}
-use Rattle.strc_code.specs.Nodes.{slot_written, inst_done, chosen_by, nodes_done, nodes_room}
-use Rattle.strc_code.specs.Nodes.{unary_done, binary_done}
-use Rattle.strc_code.specs.Lowering.{variable_slot, writes_no_variable, alias_slot, one, unary_step}
-use Rattle.strc_code.specs.Lowering.{binary_step, expr_nodes, operand_slot, operand_nodes}
+use Rattle.strc_lex_names.specs.Results.{result_and_then}
+use Rattle.strc_parse_tree.specs.Tree as tree
+use Rattle.strc_parse_tree.specs.declared.tree.UnaryOperator.{UnaryOperator}
+use Rattle.strc_parse_tree.specs.declared.tree.UnaryOperator.TheVariants as unary
+use Rattle.strc_parse_tree.specs.declared.tree.BinaryOperator.{BinaryOperator}
+use Rattle.strc_parse_tree.specs.declared.tree.BinaryOperator.TheVariants as binary
+use Rattle.strc_parse_tree.specs.declared.tree.StepOperator.{StepOperator}
+use Rattle.strc_parse_tree.specs.declared.tree.StepOperator.TheVariants as step
+use Rattle.strc_work_meaning.specs.declared.fault.Cause.{Cause}
+use Rattle.strc_work_code.specs.declared.inst.Inst.TheVariants as act
+use Rattle.strc_work_meaning.specs.Arithmetic.{wrapped, truth, is_true, unary_value, binary_value}
+use Rattle.strc_work_meaning.specs.Scoping.{Scope, total, slot_of}
+use Rattle.strc_work_meaning.specs.Closed.{IsNamed, IsClosed}
+use Rattle.strc_work_meaning.specs.Firing.{Port, Setting, Store, Traffic, value_in, joined}
+use Rattle.strc_work_meaning.specs.Firing.{value_of}
+use Rattle.strc_work_meaning.specs.Firing.{popped_from, peeked_from, assigned, with_cell}
+use Rattle.strc_work_code.specs.Nodes.{Machine, Nodes, End, Choice, before, slot_value}
+use Rattle.strc_work_code.specs.Nodes.{slot_written, inst_done, chosen_by, nodes_done, nodes_room}
+use Rattle.strc_work_code.specs.Nodes.{unary_done, binary_done}
+use Rattle.strc_work_code.specs.Lowering.{variable_slot, writes_no_variable, alias_slot, one}
+use Rattle.strc_work_code.specs.Lowering.{unary_step}
+use Rattle.strc_work_code.specs.Lowering.{binary_step, expr_nodes, operand_slot, operand_nodes}
 use Rattle.strc_work.proofs.Variables.{scope_of, at, Holds, Holds-set_above, Holds-assigned}
 use Rattle.strc_work.proofs.Variables.{scope_of-with_cell, same_slots}
 use Rattle.strc_work.proofs.Related.{Related, then_related, weaker_related, chosen_related}
 use Rattle.strc_work.proofs.Related.{nodes_done-before, then_end, then_last}
-use Rattle.strc_code.proofs.Spelled.{nodes_room-before}
+use Rattle.strc_work_code.proofs.Spelled.{nodes_room-before}
 use Rattle.strc_work.proofs.Standing.{Stands}
 use Rattle.strc_work.proofs.Expressions.{Arrives, IsInSlot, Ready, machine_at, Runs, Strict}
 use Rattle.strc_work.proofs.Expressions.{by_operator, named_below, named_value, total-variables}

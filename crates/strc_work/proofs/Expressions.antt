@@ -5,35 +5,37 @@ use Rattle.std.proofs.Common.{◌∙◌, subst, arith}
 use Rattle.std.specs.Prelude.{unwrap_or, if◌then◌else◌}
 use Rattle.std.proofs.lemmas.List.{get_or-set_same, get_or-set_other, length-set}
 use Rattle.std.proofs.lemmas.Bool.{false≢true}
-use Rattle.strc_base.specs.Results.{result_and_then}
-use Rattle.strc_syntax.specs.Tree as tree
-use Rattle.strc_syntax.specs.declared.tree.UnaryOperator.{UnaryOperator}
-use Rattle.strc_syntax.specs.declared.tree.UnaryOperator.TheVariants as unary
-use Rattle.strc_syntax.specs.declared.tree.BinaryOperator.{BinaryOperator}
-use Rattle.strc_syntax.specs.declared.tree.BinaryOperator.TheVariants as binary
-use Rattle.strc_syntax.specs.declared.tree.StepOperator.{StepOperator}
-use Rattle.strc_syntax.specs.declared.tree.StepOperator.TheVariants as step
-use Rattle.strc_semantics.specs.declared.fault.Cause.{Cause}
-use Rattle.strc_code.specs.declared.inst.Inst.TheVariants as act
-use Rattle.strc_semantics.specs.Arithmetic.{unary_value, binary_value, is_true}
-use Rattle.strc_semantics.specs.Scoping.{Scope, total, slot_of, size_of}
-use Rattle.strc_semantics.specs.Closed.{IsNamed, IsClosed}
-use Rattle.strc_semantics.specs.Firing.{Port, Setting, Variables, Store, Traffic, cells_named}
-use Rattle.strc_semantics.specs.Firing.{cell_in}
-use Rattle.strc_semantics.specs.Firing.{value_in, place_in, tested_place, place_of, joined}
-use Rattle.strc_semantics.specs.Firing.{value_of, popped_from, peeked_from}
-use Rattle.strc_code.specs.Nodes.{Machine, Nodes, End, Choice, Call, before, nodes_done}
-use Rattle.strc_code.specs.Nodes.{inst_room, nodes_room}
-use Rattle.strc_code.specs.Lowering.{variable_slot, writes_no_variable, alias_slot, unless_there}
-use Rattle.strc_code.specs.Lowering.{one, unary_step, binary_step, step_nodes, element_step_nodes}
-use Rattle.strc_code.specs.Lowering.{binary_nodes, expr_nodes, arguments_nodes}
-use Rattle.strc_semantics.specs.Calls.{argument_count}
-use Rattle.strc_code.specs.Lowering.{operand_slot, operand_nodes}
+use Rattle.strc_lex_names.specs.Results.{result_and_then}
+use Rattle.strc_parse_tree.specs.Tree as tree
+use Rattle.strc_parse_tree.specs.declared.tree.UnaryOperator.{UnaryOperator}
+use Rattle.strc_parse_tree.specs.declared.tree.UnaryOperator.TheVariants as unary
+use Rattle.strc_parse_tree.specs.declared.tree.BinaryOperator.{BinaryOperator}
+use Rattle.strc_parse_tree.specs.declared.tree.BinaryOperator.TheVariants as binary
+use Rattle.strc_parse_tree.specs.declared.tree.StepOperator.{StepOperator}
+use Rattle.strc_parse_tree.specs.declared.tree.StepOperator.TheVariants as step
+use Rattle.strc_work_meaning.specs.declared.fault.Cause.{Cause}
+use Rattle.strc_work_code.specs.declared.inst.Inst.TheVariants as act
+use Rattle.strc_work_meaning.specs.Arithmetic.{unary_value, binary_value, is_true}
+use Rattle.strc_work_meaning.specs.Scoping.{Scope, total, slot_of, size_of}
+use Rattle.strc_work_meaning.specs.Closed.{IsNamed, IsClosed}
+use Rattle.strc_work_meaning.specs.Firing.{Port, Setting, Variables, Store, Traffic, cells_named}
+use Rattle.strc_work_meaning.specs.Firing.{cell_in}
+use Rattle.strc_work_meaning.specs.Firing.{value_in, place_in, tested_place, place_of, joined}
+use Rattle.strc_work_meaning.specs.Firing.{value_of, popped_from, peeked_from}
+use Rattle.strc_work_code.specs.Nodes.{Machine, Nodes, End, Choice, Call, before, nodes_done}
+use Rattle.strc_work_code.specs.Nodes.{inst_room, nodes_room}
+use Rattle.strc_work_code.specs.Lowering.{variable_slot, writes_no_variable, alias_slot}
+use Rattle.strc_work_code.specs.Lowering.{unless_there}
+use Rattle.strc_work_code.specs.Lowering.{one, unary_step, binary_step, step_nodes}
+use Rattle.strc_work_code.specs.Lowering.{element_step_nodes}
+use Rattle.strc_work_code.specs.Lowering.{binary_nodes, expr_nodes, arguments_nodes}
+use Rattle.strc_work_meaning.specs.Calls.{argument_count}
+use Rattle.strc_work_code.specs.Lowering.{operand_slot, operand_nodes}
 use Rattle.strc_work.proofs.Variables.{scope_of, at, Holds, Holds-set_above, slot_of-below}
 use Rattle.strc_work.proofs.Variables.{slot_of-value, size_of-some, size_of-is}
 use Rattle.strc_work.proofs.Standing.{Stands}
 use Rattle.strc_work.proofs.Related.{Related, weaker_related}
-use Rattle.strc_code.proofs.Spelled.{nodes_room-before}
+use Rattle.strc_work_code.proofs.Spelled.{nodes_room-before}
 
 -- the machine is where the store is, with the value about to be written into a slot; the slots
 -- from `total names` up to `free` are kept

@@ -5,31 +5,32 @@ use Rattle.std.proofs.Common.{ap, ◌∙◌, subst, arith, append_assoc, false}
 use Rattle.std.proofs.lemmas.Bool.{false≢true}
 use Rattle.std.proofs.lemmas.List.{reverse-append, append-nil, length-take-le, length-drop}
 use Rattle.std.proofs.lemmas.List.{get_or-take, get_or-drop, get_or-replicate, length-replicate}
-use Rattle.strc_base.specs.Results.{result_and_then}
-use Rattle.strc_syntax.specs.Tree as tree
-use Rattle.strc_semantics.specs.declared.fault.Cause.{Cause}
-use Rattle.strc_semantics.specs.declared.body.Body.{Body}
-use Rattle.strc_semantics.specs.declared.body.Body.TheVariants as body
-use Rattle.strc_semantics.specs.Filters.{Filter, sized_all, sized_fields}
-use Rattle.strc_semantics.specs.Filters.{body_block}
-use Rattle.strc_semantics.specs.Scoping.{Scope, cells_of, total, slot_of}
-use Rattle.strc_semantics.specs.Closed.{IsNamed, IsClosedInitial, AreClosedFields}
-use Rattle.strc_semantics.specs.Closed.{AreClosedMembers, IsClosedFilter}
-use Rattle.strc_semantics.specs.Firing.{Setting, Variables, Store, Traffic, value_of, assigned}
-use Rattle.strc_semantics.specs.Firing.{block_left}
-use Rattle.strc_semantics.specs.Firing.{inside, stmts_done, bound_onto, no_traffic, store_at}
-use Rattle.strc_semantics.specs.Firing.{field_values, no_io, initial_given, fields_started}
-use Rattle.strc_semantics.specs.Firing.{members_started, inits_done, started, Fired, port_of, fired}
-use Rattle.strc_semantics.specs.Firing.{setting_at, setting_of}
-use Rattle.strc_code.specs.Nodes.{Machine, nodes_done, nodes_room}
-use Rattle.strc_code.specs.Lowering.{stmts_nodes, field_scope, field_nodes, fields_nodes}
-use Rattle.strc_code.specs.Lowering.{initials_nodes, inits_nodes, start_nodes, body_nodes}
-use Rattle.strc_code.specs.Lowering.{slot_count}
-use Rattle.strc_code.proofs.Totals.{total-reverse}
-use Rattle.strc_code.proofs.ClosedBodies.{body_kept}
+use Rattle.strc_lex_names.specs.Results.{result_and_then}
+use Rattle.strc_parse_tree.specs.Tree as tree
+use Rattle.strc_work_meaning.specs.declared.fault.Cause.{Cause}
+use Rattle.strc_work_meaning.specs.declared.body.Body.{Body}
+use Rattle.strc_work_meaning.specs.declared.body.Body.TheVariants as body
+use Rattle.strc_work_meaning.specs.Filters.{Filter, sized_all, sized_fields}
+use Rattle.strc_work_meaning.specs.Filters.{body_block}
+use Rattle.strc_work_meaning.specs.Scoping.{Scope, cells_of, total, slot_of}
+use Rattle.strc_work_meaning.specs.Closed.{IsNamed, IsClosedInitial, AreClosedFields}
+use Rattle.strc_work_meaning.specs.Closed.{AreClosedMembers, IsClosedFilter}
+use Rattle.strc_work_meaning.specs.Firing.{Setting, Variables, Store, Traffic, value_of, assigned}
+use Rattle.strc_work_meaning.specs.Firing.{block_left}
+use Rattle.strc_work_meaning.specs.Firing.{inside, stmts_done, bound_onto, no_traffic, store_at}
+use Rattle.strc_work_meaning.specs.Firing.{field_values, no_io, initial_given, fields_started}
+use Rattle.strc_work_meaning.specs.Firing.{members_started, inits_done, started, Fired, port_of}
+use Rattle.strc_work_meaning.specs.Firing.{fired}
+use Rattle.strc_work_meaning.specs.Firing.{setting_at, setting_of}
+use Rattle.strc_work_code.specs.Nodes.{Machine, nodes_done, nodes_room}
+use Rattle.strc_work_code.specs.Lowering.{stmts_nodes, field_scope, field_nodes, fields_nodes}
+use Rattle.strc_work_code.specs.Lowering.{initials_nodes, inits_nodes, start_nodes, body_nodes}
+use Rattle.strc_work_code.specs.Lowering.{slot_count}
+use Rattle.strc_work_code.proofs.Totals.{total-reverse}
+use Rattle.strc_work_code.proofs.ClosedBodies.{body_kept}
 use Rattle.strc_work.proofs.Variables.{scope_of, at, Holds, values-Holds}
 use Rattle.strc_work.proofs.Related.{Related, then_related, map_related, nodes_done-before}
-use Rattle.strc_code.proofs.Spelled.{nodes_room-before}
+use Rattle.strc_work_code.proofs.Spelled.{nodes_room-before}
 use Rattle.strc_work.proofs.Standing.{Stands, fields_stand}
 use Rattle.strc_work.proofs.Expressions.{Arrives, Ready, machine_at}
 use Rattle.strc_work.proofs.ExpressionRuns.{expr_runs}

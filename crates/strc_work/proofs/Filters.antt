@@ -5,27 +5,30 @@ use Rattle.std.proofs.Common.{ap, ◌∙◌, subst, arith}
 use Rattle.std.proofs.lemmas.Bool.Decides.{nat_tests}
 use Rattle.std.proofs.lemmas.Int.{ints}
 use Rattle.std.specs.Int.RustNames.{int_lt}
-use Rattle.strc_base.specs.Names.{has_name}
-use Rattle.strc_base.specs.Results.{result_and_then}
-use Rattle.strc_syntax.specs.Tree as tree
-use Rattle.strc_syntax.specs.declared.tree.ItemType.{ItemType}
-use Rattle.strc_semantics.specs.Filters.{Filter, work_count}
-use Rattle.strc_check.specs.declared.error.LowerError.{LowerError}
-use Rattle.strc_semantics.specs.declared.types.ValueType.{ValueType}
-use Rattle.strc_semantics.specs.Typing.{TypedNames, type_of, names_after_fields}
-use Rattle.strc_check.specs.Resolution.{Context, ResolvedType, Work, where_kept, initial_resolved}
-use Rattle.strc_check.specs.Resolution.{is_field_taken}
-use Rattle.strc_check.specs.Resolution.{number_resolved, type_resolved, carries_items, side_of}
-use Rattle.strc_check.specs.Resolution.{start_context, helper_context, body_context, is_taken}
-use Rattle.strc_check.specs.Resolution.{rate_fits, rate_resolved, parameter_resolved, known_after}
-use Rattle.strc_check.specs.Resolution.{parameters_resolved}
-use Rattle.strc_check.specs.Signatures.{Signatures, signatures_after, with_parameters}
-use Rattle.strc_semantics.specs.declared.types.ValueType.TheVariants.{Int}
-use Rattle.strc_check.specs.Resolution.{rates_resolved, field_resolved, fields_resolved}
-use Rattle.strc_check.specs.Resolution.{fields_after, body_resolved, work_resolved, member_resolved}
-use Rattle.strc_check.specs.Resolution.{members_resolved, prework_count, init_count, has_parts}
-use Rattle.strc_check.specs.Resolution.{filter_resolved}
-use Rattle.strc_check.proofs.ResolvingStatements.{Gives, then_gives}
+use Rattle.strc_lex_names.specs.Names.{has_name}
+use Rattle.strc_lex_names.specs.Results.{result_and_then}
+use Rattle.strc_parse_tree.specs.Tree as tree
+use Rattle.strc_parse_tree.specs.declared.tree.ItemType.{ItemType}
+use Rattle.strc_work_meaning.specs.Filters.{Filter, work_count}
+use Rattle.strc_work_rules.specs.declared.error.LowerError.{LowerError}
+use Rattle.strc_work_meaning.specs.declared.types.ValueType.{ValueType}
+use Rattle.strc_work_meaning.specs.Typing.{TypedNames, type_of, names_after_fields}
+use Rattle.strc_work_rules.specs.Resolution.{Context, ResolvedType, Work, where_kept}
+use Rattle.strc_work_rules.specs.Resolution.{initial_resolved}
+use Rattle.strc_work_rules.specs.Resolution.{is_field_taken}
+use Rattle.strc_work_rules.specs.Resolution.{number_resolved, type_resolved, carries_items, side_of}
+use Rattle.strc_work_rules.specs.Resolution.{start_context, helper_context, body_context, is_taken}
+use Rattle.strc_work_rules.specs.Resolution.{rate_fits, rate_resolved, parameter_resolved}
+use Rattle.strc_work_rules.specs.Resolution.{known_after}
+use Rattle.strc_work_rules.specs.Resolution.{parameters_resolved}
+use Rattle.strc_work_rules.specs.Signatures.{Signatures, signatures_after, with_parameters}
+use Rattle.strc_work_meaning.specs.declared.types.ValueType.TheVariants.{Int}
+use Rattle.strc_work_rules.specs.Resolution.{rates_resolved, field_resolved, fields_resolved}
+use Rattle.strc_work_rules.specs.Resolution.{fields_after, body_resolved, work_resolved}
+use Rattle.strc_work_rules.specs.Resolution.{member_resolved}
+use Rattle.strc_work_rules.specs.Resolution.{members_resolved, prework_count, init_count, has_parts}
+use Rattle.strc_work_rules.specs.Resolution.{filter_resolved}
+use Rattle.strc_work_rules.proofs.ResolvingStatements.{Gives, then_gives}
 use Rattle.strc_work.specs.Expressions.{InitialHasType}
 use Rattle.strc_work.specs.Numbers.{HasNumber}
 use Rattle.strc_work.specs.Statements.{IsDeclarable, AreWellFormed}

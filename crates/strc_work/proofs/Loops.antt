@@ -4,24 +4,25 @@ use Rattle.std.proofs.Common.{List}
 use Rattle.std.proofs.Common.{length, set, Option, Some, None, Result, Ok, Err, refl, sym, ap}
 use Rattle.std.proofs.Common.{◌∙◌, subst, arith}
 use Rattle.std.proofs.lemmas.List.{get_or-set_same, length-set}
-use Rattle.strc_base.specs.Results.{result_and_then}
-use Rattle.strc_syntax.specs.Tree as tree
-use Rattle.strc_semantics.specs.declared.fault.Cause.{Cause}
-use Rattle.strc_semantics.specs.Arithmetic.{is_true}
-use Rattle.strc_code.specs.declared.inst.Inst.TheVariants as act
-use Rattle.strc_semantics.specs.Scoping.{Scope, answer_name, total, slot_of}
-use Rattle.strc_semantics.specs.Closed.{IsNamed, IsClosed, IsClosedInitial}
-use Rattle.strc_semantics.specs.Firing.{Setting, Store, Traffic, value_of, one_more_turn, turned}
-use Rattle.strc_semantics.specs.Firing.{turn_limit, looped, condition_value, has_returned}
-use Rattle.strc_semantics.specs.Firing.{test_unless_returned}
-use Rattle.strc_code.specs.Nodes.{Machine, Nodes, End, Choice, Loop, before, slot_value}
-use Rattle.strc_code.specs.Nodes.{turned_on, chosen_by, cycled, nodes_done, nodes_room}
-use Rattle.strc_code.specs.Lowering.{one, expr_nodes, operand_slot, operand_nodes, condition_nodes}
-use Rattle.strc_code.specs.Lowering.{condition_slot, held_nodes, loop_test, loop_slot}
+use Rattle.strc_lex_names.specs.Results.{result_and_then}
+use Rattle.strc_parse_tree.specs.Tree as tree
+use Rattle.strc_work_meaning.specs.declared.fault.Cause.{Cause}
+use Rattle.strc_work_meaning.specs.Arithmetic.{is_true}
+use Rattle.strc_work_code.specs.declared.inst.Inst.TheVariants as act
+use Rattle.strc_work_meaning.specs.Scoping.{Scope, answer_name, total, slot_of}
+use Rattle.strc_work_meaning.specs.Closed.{IsNamed, IsClosed, IsClosedInitial}
+use Rattle.strc_work_meaning.specs.Firing.{Setting, Store, Traffic, value_of, one_more_turn, turned}
+use Rattle.strc_work_meaning.specs.Firing.{turn_limit, looped, condition_value, has_returned}
+use Rattle.strc_work_meaning.specs.Firing.{test_unless_returned}
+use Rattle.strc_work_code.specs.Nodes.{Machine, Nodes, End, Choice, Loop, before, slot_value}
+use Rattle.strc_work_code.specs.Nodes.{turned_on, chosen_by, cycled, nodes_done, nodes_room}
+use Rattle.strc_work_code.specs.Lowering.{one, expr_nodes, operand_slot, operand_nodes}
+use Rattle.strc_work_code.specs.Lowering.{condition_nodes}
+use Rattle.strc_work_code.specs.Lowering.{condition_slot, held_nodes, loop_test, loop_slot}
 use Rattle.strc_work.proofs.Variables.{scope_of, Holds-set_above}
 use Rattle.strc_work.proofs.Related.{Related, then_related, weaker_related, chosen_related}
 use Rattle.strc_work.proofs.Related.{nodes_done-before, then_end}
-use Rattle.strc_code.proofs.Spelled.{nodes_room-before}
+use Rattle.strc_work_code.proofs.Spelled.{nodes_room-before}
 use Rattle.strc_work.proofs.Standing.{Stands}
 use Rattle.strc_work.proofs.Expressions.{Arrives, IsInSlot, Ready, machine_at, operand_runs}
 use Rattle.strc_work.proofs.ExpressionRuns.{expr_runs}

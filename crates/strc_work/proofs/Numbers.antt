@@ -2,28 +2,30 @@
 use Rattle.std.proofs.Common.{◌≡◌, ◌↔◌, ℕ, ℤ, Bool, true, false, cond, List, [], ◌∷◌, Option, Some}
 use Rattle.std.proofs.Common.{None, Result, Ok, Err, pos, refl, sym, ap, ◌∙◌, subst}
 use Rattle.std.specs.Prelude.{bytes_eq, slice_index_or}
-use Rattle.strc_base.specs.Names.{value_named}
-use Rattle.strc_base.specs.Results.{result_and_then}
-use Rattle.strc_syntax.specs.Tree as tree
-use Rattle.strc_syntax.specs.declared.tree.UnaryOperator.{UnaryOperator}
-use Rattle.strc_syntax.specs.declared.tree.BinaryOperator.{BinaryOperator}
-use Rattle.strc_syntax.specs.declared.tree.BinaryOperator.TheVariants as binary
-use Rattle.strc_semantics.specs.declared.fault.Cause.{Cause}
-use Rattle.strc_semantics.specs.Arithmetic.{unary_value, binary_value, is_true}
-use Rattle.strc_semantics.specs.Constants.{IsConstant, constant_value}
-use Rattle.strc_semantics.specs.Firing.{Setting, Traffic, Store, cells_named, joined, value_of}
-use Rattle.strc_semantics.specs.Firing.{alone}
-use Rattle.strc_semantics.proofs.ConstantValues.{constant_value_Ok, constant_value_Err}
-use Rattle.strc_check.specs.declared.error.LowerError.{LowerError}
-use Rattle.strc_semantics.specs.declared.types.ValueType.{ValueType}
-use Rattle.strc_semantics.specs.declared.types.ValueType.TheVariants.{Int, Boolean}
-use Rattle.strc_semantics.specs.Typing.{TypedNames, same_type}
-use Rattle.strc_check.specs.Resolution.{Typed, expect_type, read_as, constant_read, operand_type}
-use Rattle.strc_check.specs.Resolution.{sides_type, binary_type, unary_typed, binary_typed}
-use Rattle.strc_check.specs.Resolution.{conditional_typed, peek_typed, group_typed, expr_resolved}
-use Rattle.strc_check.specs.Resolution.{expr_as, rate_context, value_given, number_resolved}
-use Rattle.strc_check.proofs.ResolvingStatements.{Gives, then_gives, any_gives}
-use Rattle.strc_check.proofs.ResolvingStatements as resolving
+use Rattle.strc_lex_names.specs.Names.{value_named}
+use Rattle.strc_lex_names.specs.Results.{result_and_then}
+use Rattle.strc_parse_tree.specs.Tree as tree
+use Rattle.strc_parse_tree.specs.declared.tree.UnaryOperator.{UnaryOperator}
+use Rattle.strc_parse_tree.specs.declared.tree.BinaryOperator.{BinaryOperator}
+use Rattle.strc_parse_tree.specs.declared.tree.BinaryOperator.TheVariants as binary
+use Rattle.strc_work_meaning.specs.declared.fault.Cause.{Cause}
+use Rattle.strc_work_meaning.specs.Arithmetic.{unary_value, binary_value, is_true}
+use Rattle.strc_work_meaning.specs.Constants.{IsConstant, constant_value}
+use Rattle.strc_work_meaning.specs.Firing.{Setting, Traffic, Store, cells_named, joined, value_of}
+use Rattle.strc_work_meaning.specs.Firing.{alone}
+use Rattle.strc_work_meaning.proofs.ConstantValues.{constant_value_Ok, constant_value_Err}
+use Rattle.strc_work_rules.specs.declared.error.LowerError.{LowerError}
+use Rattle.strc_work_meaning.specs.declared.types.ValueType.{ValueType}
+use Rattle.strc_work_meaning.specs.declared.types.ValueType.TheVariants.{Int, Boolean}
+use Rattle.strc_work_meaning.specs.Typing.{TypedNames, same_type}
+use Rattle.strc_work_rules.specs.Resolution.{Typed, expect_type, read_as, constant_read}
+use Rattle.strc_work_rules.specs.Resolution.{operand_type}
+use Rattle.strc_work_rules.specs.Resolution.{sides_type, binary_type, unary_typed, binary_typed}
+use Rattle.strc_work_rules.specs.Resolution.{conditional_typed, peek_typed, group_typed}
+use Rattle.strc_work_rules.specs.Resolution.{expr_resolved}
+use Rattle.strc_work_rules.specs.Resolution.{expr_as, rate_context, value_given, number_resolved}
+use Rattle.strc_work_rules.proofs.ResolvingStatements.{Gives, then_gives, any_gives}
+use Rattle.strc_work_rules.proofs.ResolvingStatements as resolving
 use Rattle.strc_work.specs.Expressions.{HasType}
 use Rattle.strc_work.specs.Numbers.{constant_variables, constant_store, Means, HasNumber}
 use Rattle.strc_work.proofs.Accepting.{then_is}

@@ -3,39 +3,42 @@ use Rattle.std.proofs.Common.{◌≡◌, ℕ, zero, suc, ◌+◌, Bool, true, fa
 use Rattle.std.proofs.Common.{◌∷◌}
 use Rattle.std.proofs.Common.{Option, Some, None, Result, Ok, Err, refl, sym, ap, ◌∙◌}
 use Rattle.std.specs.Prelude.{unwrap_or}
-use Rattle.strc_syntax.specs.Tree as tree
-use Rattle.strc_syntax.specs.declared.tree.UnaryOperator.{UnaryOperator}
-use Rattle.strc_syntax.specs.declared.tree.UnaryOperator.TheVariants as unary
-use Rattle.strc_syntax.specs.declared.tree.BinaryOperator.{BinaryOperator}
-use Rattle.strc_syntax.specs.declared.tree.BinaryOperator.TheVariants as binary
-use Rattle.strc_syntax.specs.declared.tree.AssignOperator.{AssignOperator}
-use Rattle.strc_syntax.specs.declared.tree.AssignOperator.TheVariants as assign
-use Rattle.strc_syntax.specs.declared.tree.StepOperator.{StepOperator}
-use Rattle.strc_syntax.specs.declared.tree.StepOperator.TheVariants as step
-use Rattle.strc_code.specs.declared.inst.Inst.{Inst}
-use Rattle.strc_code.specs.declared.inst.Inst.TheVariants as act
-use Rattle.strc_semantics.specs.declared.body.Body.{Body}
-use Rattle.strc_semantics.specs.declared.fault.Halt.{Halt}
-use Rattle.strc_semantics.specs.declared.fault.Halt.TheVariants as halt
-use Rattle.strc_instructions.specs.Running.{WantsOnlyWords}
-use Rattle.strc_semantics.specs.Filters.{Filter, stmt_prints, stmts_print, body_block}
-use Rattle.strc_semantics.specs.Filters.{body_prints}
-use Rattle.strc_semantics.specs.Firing.{assigned_value}
-use Rattle.strc_semantics.specs.Scoping.{Scope, answer_name, cells_of, total, slot_of, size_of}
-use Rattle.strc_semantics.specs.Scoping.{names_after}
-use Rattle.strc_code.specs.Nodes.{Nodes, End, Act, Choice, Loop, Call, before}
-use Rattle.strc_code.specs.Nodes.{inst_prints, nodes_print}
-use Rattle.strc_code.specs.Lowering.{unless_there, variable_slot, alias_slot, writes_no_variable}
-use Rattle.strc_code.specs.Lowering.{one, unary_step, binary_step, step_nodes, element_step_nodes}
-use Rattle.strc_code.specs.Lowering.{binary_nodes, expr_nodes, arguments_nodes}
-use Rattle.strc_semantics.specs.Calls.{argument_count}
-use Rattle.strc_code.specs.Lowering.{operand_slot, operand_nodes}
-use Rattle.strc_code.specs.Lowering.{evaluation_nodes, used_nodes, compound_nodes, element_nodes}
-use Rattle.strc_code.specs.Lowering.{initial_nodes, variables_nodes, condition_nodes}
-use Rattle.strc_code.specs.Lowering.{held_nodes, loop_test, loop_slot, unless_answered}
-use Rattle.strc_code.specs.Lowering.{return_nodes, stmt_nodes, stmts_nodes, body_nodes}
-use Rattle.strc_code.specs.Lowering.{field_scope}
-use Rattle.strc_semantics.specs.Returns.{stmt_returns}
+use Rattle.strc_parse_tree.specs.Tree as tree
+use Rattle.strc_parse_tree.specs.declared.tree.UnaryOperator.{UnaryOperator}
+use Rattle.strc_parse_tree.specs.declared.tree.UnaryOperator.TheVariants as unary
+use Rattle.strc_parse_tree.specs.declared.tree.BinaryOperator.{BinaryOperator}
+use Rattle.strc_parse_tree.specs.declared.tree.BinaryOperator.TheVariants as binary
+use Rattle.strc_parse_tree.specs.declared.tree.AssignOperator.{AssignOperator}
+use Rattle.strc_parse_tree.specs.declared.tree.AssignOperator.TheVariants as assign
+use Rattle.strc_parse_tree.specs.declared.tree.StepOperator.{StepOperator}
+use Rattle.strc_parse_tree.specs.declared.tree.StepOperator.TheVariants as step
+use Rattle.strc_work_code.specs.declared.inst.Inst.{Inst}
+use Rattle.strc_work_code.specs.declared.inst.Inst.TheVariants as act
+use Rattle.strc_work_meaning.specs.declared.body.Body.{Body}
+use Rattle.strc_work_meaning.specs.declared.fault.Halt.{Halt}
+use Rattle.strc_work_meaning.specs.declared.fault.Halt.TheVariants as halt
+use Rattle.strc_work_instructions.specs.Running.{WantsOnlyWords}
+use Rattle.strc_work_meaning.specs.Filters.{Filter, stmt_prints, stmts_print, body_block}
+use Rattle.strc_work_meaning.specs.Filters.{body_prints}
+use Rattle.strc_work_meaning.specs.Firing.{assigned_value}
+use Rattle.strc_work_meaning.specs.Scoping.{Scope, answer_name, cells_of, total, slot_of, size_of}
+use Rattle.strc_work_meaning.specs.Scoping.{names_after}
+use Rattle.strc_work_code.specs.Nodes.{Nodes, End, Act, Choice, Loop, Call, before}
+use Rattle.strc_work_code.specs.Nodes.{inst_prints, nodes_print}
+use Rattle.strc_work_code.specs.Lowering.{unless_there, variable_slot, alias_slot}
+use Rattle.strc_work_code.specs.Lowering.{writes_no_variable}
+use Rattle.strc_work_code.specs.Lowering.{one, unary_step, binary_step, step_nodes}
+use Rattle.strc_work_code.specs.Lowering.{element_step_nodes}
+use Rattle.strc_work_code.specs.Lowering.{binary_nodes, expr_nodes, arguments_nodes}
+use Rattle.strc_work_meaning.specs.Calls.{argument_count}
+use Rattle.strc_work_code.specs.Lowering.{operand_slot, operand_nodes}
+use Rattle.strc_work_code.specs.Lowering.{evaluation_nodes, used_nodes, compound_nodes}
+use Rattle.strc_work_code.specs.Lowering.{element_nodes}
+use Rattle.strc_work_code.specs.Lowering.{initial_nodes, variables_nodes, condition_nodes}
+use Rattle.strc_work_code.specs.Lowering.{held_nodes, loop_test, loop_slot, unless_answered}
+use Rattle.strc_work_code.specs.Lowering.{return_nodes, stmt_nodes, stmts_nodes, body_nodes}
+use Rattle.strc_work_code.specs.Lowering.{field_scope}
+use Rattle.strc_work_meaning.specs.Returns.{stmt_returns}
 use Rattle.strc_work.proofs.Expressions.{by_operator}
 
 -- ---- truths

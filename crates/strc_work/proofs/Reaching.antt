@@ -2,17 +2,17 @@
 use Rattle.std.proofs.Common.{◌≡◌, ℕ, ◌-◌, ◌≤◌, Bool, true, false, ℤ, List, ◌++◌, length, drop}
 use Rattle.std.proofs.Common.{Result, refl, sym, ap}
 use Rattle.std.proofs.Common.{◌∙◌, subst, arith, append_assoc}
-use Rattle.strc_syntax.specs.Tree as tree
-use Rattle.strc_semantics.specs.declared.fault.Cause.{Cause}
-use Rattle.strc_semantics.specs.Arithmetic.{is_true}
-use Rattle.strc_semantics.specs.Scoping.{Scope, answer_name, total, names_after, slot_of}
-use Rattle.strc_semantics.specs.Returns.{stmt_shadows, stmts_shadow}
-use Rattle.strc_semantics.specs.Closed.{IsNamed, IsClosedStmt, AreClosed}
-use Rattle.strc_semantics.specs.Firing.{Setting, Variables, Store, block_left, inside}
-use Rattle.strc_semantics.specs.Firing.{has_returned, stmt_done, stmts_done}
-use Rattle.strc_code.specs.Nodes.{Machine, Nodes, slot_value, nodes_done, nodes_room}
-use Rattle.strc_code.specs.Lowering.{stmt_nodes, stmts_nodes}
-use Rattle.strc_semantics.proofs.Growth.{IsBaseOf, base_of_itself, base_of_after, drop_inner}
+use Rattle.strc_parse_tree.specs.Tree as tree
+use Rattle.strc_work_meaning.specs.declared.fault.Cause.{Cause}
+use Rattle.strc_work_meaning.specs.Arithmetic.{is_true}
+use Rattle.strc_work_meaning.specs.Scoping.{Scope, answer_name, total, names_after, slot_of}
+use Rattle.strc_work_meaning.specs.Returns.{stmt_shadows, stmts_shadow}
+use Rattle.strc_work_meaning.specs.Closed.{IsNamed, IsClosedStmt, AreClosed}
+use Rattle.strc_work_meaning.specs.Firing.{Setting, Variables, Store, block_left, inside}
+use Rattle.strc_work_meaning.specs.Firing.{has_returned, stmt_done, stmts_done}
+use Rattle.strc_work_code.specs.Nodes.{Machine, Nodes, slot_value, nodes_done, nodes_room}
+use Rattle.strc_work_code.specs.Lowering.{stmt_nodes, stmts_nodes}
+use Rattle.strc_work_meaning.proofs.Growth.{IsBaseOf, base_of_itself, base_of_after, drop_inner}
 use Rattle.strc_work.proofs.Variables.{scope_of, Holds, Holds-drop, length-scope_of, scope_of-drop}
 use Rattle.strc_work.proofs.Related.{Related, weaker_related, map_related}
 use Rattle.strc_work.proofs.Standing.{Stands}

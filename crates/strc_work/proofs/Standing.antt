@@ -3,13 +3,13 @@ use Rattle.std.proofs.Common.{◌≡◌, ◌+◌, ◌-◌, ◌≤◌, zero, suc,
 use Rattle.std.proofs.Common.{reverse, refl, sym, ap, ◌∙◌, subst, arith, length-append}
 use Rattle.std.proofs.lemmas.List.{length-reverse}
 use Rattle.std.proofs.Math.Seq.{drop-append-add}
-use Rattle.strc_syntax.specs.Tree as tree
-use Rattle.strc_semantics.specs.Filters.{Filter, sized_fields}
-use Rattle.strc_semantics.specs.Scoping.{Scope, total, names_after}
-use Rattle.strc_semantics.specs.Firing.{Port, Setting, setting_at}
-use Rattle.strc_semantics.proofs.Growth.{IsBaseOf, base_of_itself, base_of_after}
-use Rattle.strc_code.specs.Lowering.{field_scope}
-use Rattle.strc_code.proofs.Totals.{total-reverse}
+use Rattle.strc_parse_tree.specs.Tree as tree
+use Rattle.strc_work_meaning.specs.Filters.{Filter, sized_fields}
+use Rattle.strc_work_meaning.specs.Scoping.{Scope, total, names_after}
+use Rattle.strc_work_meaning.specs.Firing.{Port, Setting, setting_at}
+use Rattle.strc_work_meaning.proofs.Growth.{IsBaseOf, base_of_itself, base_of_after}
+use Rattle.strc_work_code.specs.Lowering.{field_scope}
+use Rattle.strc_work_code.proofs.Totals.{total-reverse}
 
 -- the outermost of the names are the setting's fields, and have its cells together
 pub record Stands (setting : Setting) (names : Scope) : Type 0 where

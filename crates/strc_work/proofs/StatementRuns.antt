@@ -4,33 +4,35 @@ use Rattle.std.proofs.Common.{negsuc, List, length, set, Option, Some, None, Res
 use Rattle.std.proofs.Common.{sym, ap, ◌∙◌, subst, arith}
 use Rattle.std.proofs.lemmas.Bool.{false≢true}
 use Rattle.std.proofs.lemmas.List.{length-set}
-use Rattle.strc_base.specs.Results.{result_and_then}
-use Rattle.strc_syntax.specs.Tree as tree
-use Rattle.strc_syntax.specs.declared.tree.StepOperator.TheVariants as step
-use Rattle.strc_semantics.specs.declared.fault.Cause.{Cause}
-use Rattle.strc_code.specs.declared.inst.Inst.{Inst}
-use Rattle.strc_code.specs.declared.inst.Inst.TheVariants as act
-use Rattle.strc_semantics.specs.Arithmetic.{is_true}
-use Rattle.strc_semantics.specs.Scoping.{Scope, answer_name, cells_of, total, slot_of, size_of}
-use Rattle.strc_semantics.specs.Scoping.{names_after}
-use Rattle.strc_semantics.specs.Returns.{stmt_returns, stmt_shadows, stmts_shadow}
-use Rattle.strc_semantics.specs.Closed.{IsNamed, IsClosed}
-use Rattle.strc_semantics.specs.Firing.{Setting, Store, Traffic, value_of, pushed_to, printed}
-use Rattle.strc_semantics.specs.Firing.{assigned, assigned_value, turn_limit, looped}
-use Rattle.strc_semantics.specs.Firing.{condition_value, inside, block_left, stmt_done, stmts_done}
-use Rattle.strc_semantics.specs.Firing.{has_returned, unless_returned, test_unless_returned}
-use Rattle.strc_semantics.specs.Firing.{cell_set, with_cell}
-use Rattle.strc_code.specs.Nodes.{Machine, Nodes, End, Choice, Loop, before, slot_value, inst_done}
-use Rattle.strc_code.specs.Nodes.{chosen_by, nodes_done, nodes_room}
-use Rattle.strc_code.specs.Lowering.{one, expr_nodes, operand_slot, operand_nodes, loop_test}
-use Rattle.strc_code.specs.Lowering.{loop_slot, unless_answered, stmt_nodes, stmts_nodes}
-use Rattle.strc_code.specs.Lowering.{used_nodes}
-use Rattle.strc_semantics.proofs.Growth.{base_of_itself}
+use Rattle.strc_lex_names.specs.Results.{result_and_then}
+use Rattle.strc_parse_tree.specs.Tree as tree
+use Rattle.strc_parse_tree.specs.declared.tree.StepOperator.TheVariants as step
+use Rattle.strc_work_meaning.specs.declared.fault.Cause.{Cause}
+use Rattle.strc_work_code.specs.declared.inst.Inst.{Inst}
+use Rattle.strc_work_code.specs.declared.inst.Inst.TheVariants as act
+use Rattle.strc_work_meaning.specs.Arithmetic.{is_true}
+use Rattle.strc_work_meaning.specs.Scoping.{Scope, answer_name, cells_of, total, slot_of, size_of}
+use Rattle.strc_work_meaning.specs.Scoping.{names_after}
+use Rattle.strc_work_meaning.specs.Returns.{stmt_returns, stmt_shadows, stmts_shadow}
+use Rattle.strc_work_meaning.specs.Closed.{IsNamed, IsClosed}
+use Rattle.strc_work_meaning.specs.Firing.{Setting, Store, Traffic, value_of, pushed_to, printed}
+use Rattle.strc_work_meaning.specs.Firing.{assigned, assigned_value, turn_limit, looped}
+use Rattle.strc_work_meaning.specs.Firing.{condition_value, inside, block_left, stmt_done}
+use Rattle.strc_work_meaning.specs.Firing.{stmts_done}
+use Rattle.strc_work_meaning.specs.Firing.{has_returned, unless_returned, test_unless_returned}
+use Rattle.strc_work_meaning.specs.Firing.{cell_set, with_cell}
+use Rattle.strc_work_code.specs.Nodes.{Machine, Nodes, End, Choice, Loop, before, slot_value}
+use Rattle.strc_work_code.specs.Nodes.{inst_done}
+use Rattle.strc_work_code.specs.Nodes.{chosen_by, nodes_done, nodes_room}
+use Rattle.strc_work_code.specs.Lowering.{one, expr_nodes, operand_slot, operand_nodes, loop_test}
+use Rattle.strc_work_code.specs.Lowering.{loop_slot, unless_answered, stmt_nodes, stmts_nodes}
+use Rattle.strc_work_code.specs.Lowering.{used_nodes}
+use Rattle.strc_work_meaning.proofs.Growth.{base_of_itself}
 use Rattle.strc_work.proofs.Variables.{scope_of, scope_of-with_cell, Holds, Holds-set_above}
 use Rattle.strc_work.proofs.Variables.{Holds-with_cell}
 use Rattle.strc_work.proofs.Related.{Related, then_related, map_related, nodes_done-before}
 use Rattle.strc_work.proofs.Related.{then_end, then_last, chosen_related}
-use Rattle.strc_code.proofs.Spelled.{nodes_room-before}
+use Rattle.strc_work_code.proofs.Spelled.{nodes_room-before}
 use Rattle.strc_work.proofs.Standing.{Stands, stands_after}
 use Rattle.strc_work.proofs.Expressions.{Arrives, IsInSlot, Ready, machine_at, operand_runs}
 use Rattle.strc_work.proofs.ExpressionRuns.{expr_runs}

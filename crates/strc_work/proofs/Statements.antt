@@ -4,27 +4,30 @@ use Rattle.std.proofs.Common.{[], ◌∷◌, length, Option, Some, None, Result,
 use Rattle.std.proofs.Common.{ap, ◌∙◌, subst, arith}
 use Rattle.std.proofs.lemmas.Int.{ints}
 use Rattle.std.specs.Int.RustNames.{int_lt}
-use Rattle.strc_base.specs.Results.{result_and_then}
-use Rattle.strc_syntax.specs.Tree as tree
-use Rattle.strc_syntax.specs.declared.tree.AssignOperator.{AssignOperator}
-use Rattle.strc_syntax.specs.declared.tree.AssignOperator.TheVariants as assign
-use Rattle.strc_semantics.specs.declared.fault.Cause.TheVariants.{Index}
-use Rattle.strc_check.specs.declared.error.LowerError.{LowerError}
-use Rattle.strc_check.specs.declared.error.LowerErrorKind.TheVariants as refused
-use Rattle.strc_check.specs.declared.type_rules.TheConstants.{LENGTH_LIMIT}
-use Rattle.strc_semantics.specs.declared.types.ValueType.{ValueType}
-use Rattle.strc_semantics.specs.declared.types.ValueType.TheVariants.{Int, Boolean, Array}
-use Rattle.strc_semantics.specs.Typing.{TypedNames, same_type, type_of, names_after}
-use Rattle.strc_check.specs.Resolution.{Context, Typed, ResolvedType, where_kept, write_resolved}
-use Rattle.strc_check.specs.Resolution.{array_resolved, expr_resolved, expr_as, initial_resolved}
-use Rattle.strc_check.specs.Resolution.{number_resolved, array_type, type_resolved}
-use Rattle.strc_check.specs.Resolution.{local_resolved, variables_resolved, assigned_type}
-use Rattle.strc_check.specs.Resolution.{assign_resolved, element_assign_resolved, given_resolved}
-use Rattle.strc_check.specs.Resolution.{stmt_resolved, stmts_resolved, is_taken, evaluated}
-use Rattle.strc_check.specs.Resolution.{arguments_resolved, call_given, returned_as, returned}
-use Rattle.strc_check.specs.Signatures.{given_type}
-use Rattle.strc_syntax.specs.declared.tree.HelperType.{HelperType}
-use Rattle.strc_check.proofs.ResolvingStatements.{Gives, then_gives}
+use Rattle.strc_lex_names.specs.Results.{result_and_then}
+use Rattle.strc_parse_tree.specs.Tree as tree
+use Rattle.strc_parse_tree.specs.declared.tree.AssignOperator.{AssignOperator}
+use Rattle.strc_parse_tree.specs.declared.tree.AssignOperator.TheVariants as assign
+use Rattle.strc_work_meaning.specs.declared.fault.Cause.TheVariants.{Index}
+use Rattle.strc_work_rules.specs.declared.error.LowerError.{LowerError}
+use Rattle.strc_work_rules.specs.declared.error.LowerErrorKind.TheVariants as refused
+use Rattle.strc_work_rules.specs.declared.type_rules.TheConstants.{LENGTH_LIMIT}
+use Rattle.strc_work_meaning.specs.declared.types.ValueType.{ValueType}
+use Rattle.strc_work_meaning.specs.declared.types.ValueType.TheVariants.{Int, Boolean, Array}
+use Rattle.strc_work_meaning.specs.Typing.{TypedNames, same_type, type_of, names_after}
+use Rattle.strc_work_rules.specs.Resolution.{Context, Typed, ResolvedType, where_kept}
+use Rattle.strc_work_rules.specs.Resolution.{write_resolved}
+use Rattle.strc_work_rules.specs.Resolution.{array_resolved, expr_resolved, expr_as}
+use Rattle.strc_work_rules.specs.Resolution.{initial_resolved}
+use Rattle.strc_work_rules.specs.Resolution.{number_resolved, array_type, type_resolved}
+use Rattle.strc_work_rules.specs.Resolution.{local_resolved, variables_resolved, assigned_type}
+use Rattle.strc_work_rules.specs.Resolution.{assign_resolved, element_assign_resolved}
+use Rattle.strc_work_rules.specs.Resolution.{given_resolved}
+use Rattle.strc_work_rules.specs.Resolution.{stmt_resolved, stmts_resolved, is_taken, evaluated}
+use Rattle.strc_work_rules.specs.Resolution.{arguments_resolved, call_given, returned_as, returned}
+use Rattle.strc_work_rules.specs.Signatures.{given_type}
+use Rattle.strc_parse_tree.specs.declared.tree.HelperType.{HelperType}
+use Rattle.strc_work_rules.proofs.ResolvingStatements.{Gives, then_gives}
 use Rattle.strc_work.specs.Expressions.{IsVariable, SeesVariable, HasType, InitialHasType}
 use Rattle.strc_work.specs.Numbers.{HasNumber}
 use Rattle.strc_work.specs.Statements.{IsLength, IsDeclarable, AreDeclared, IsAssignable}

@@ -2,17 +2,17 @@
 use Rattle.std.proofs.Common.{◌≡◌, ℕ, ◌+◌, ◌-◌, ◌*◌, ◌≤◌, Bool, true, false, cond}
 use Rattle.std.proofs.Common.{List, sym, ap, ◌∙◌, arith}
 use Rattle.std.specs.Prelude.{nat_lt}
-use Rattle.strc_syntax.specs.declared.tree.FilterTree.{FilterTree}
-use Rattle.strc_semantics.specs.Filters.{filter_of, sized_fields}
-use Rattle.strc_semantics.specs.Scoping.{total}
-use Rattle.strc_semantics.specs.Firing.{Port, setting_at, call_limit}
-use Rattle.strc_semantics.proofs.Turns.{call_limit-is}
-use Rattle.strc_code.specs.Lowering.{field_scope, slot_count, helpers_room}
-use Rattle.strc_code.specs.declared.helper.HelperCode.{HelperCode}
-use Rattle.strc_code.specs.Helpers.{AreHelpers, saved_count}
-use Rattle.strc_code.specs.Links.{helper_names, AreLinkedCodes}
-use Rattle.strc_semantics.specs.Closed.{IsClosedFilter}
-use Rattle.strc_code.proofs.HelperRooms.{codes_room-is}
+use Rattle.strc_parse_tree.specs.declared.tree.FilterTree.{FilterTree}
+use Rattle.strc_work_meaning.specs.Filters.{filter_of, sized_fields}
+use Rattle.strc_work_meaning.specs.Scoping.{total}
+use Rattle.strc_work_meaning.specs.Firing.{Port, setting_at, call_limit}
+use Rattle.strc_work_meaning.proofs.Turns.{call_limit-is}
+use Rattle.strc_work_code.specs.Lowering.{field_scope, slot_count, helpers_room}
+use Rattle.strc_work_code.specs.declared.helper.HelperCode.{HelperCode}
+use Rattle.strc_work_code.specs.Helpers.{AreHelpers, saved_count}
+use Rattle.strc_work_code.specs.Links.{helper_names, AreLinkedCodes}
+use Rattle.strc_work_meaning.specs.Closed.{IsClosedFilter}
+use Rattle.strc_work_code.proofs.HelperRooms.{codes_room-is}
 use Rattle.strc_work.specs.Settings.{level_setting}
 use Rattle.strc_work.specs.Calls.{Callable, IsCallable, filter_in, save_room, setting_in}
 

@@ -3,31 +3,35 @@ use Rattle.std.proofs.Common.{◌≡◌, ◌↔◌, ℕ, ℤ, Bool, true, false,
 use Rattle.std.proofs.Common.{Result, Ok, Err, IsOk, IsNone, IsSome, is_some, refl, sym, ap}
 use Rattle.std.proofs.Common.{◌∙◌, subst, inl, inr, cond, ◌==◌, arith}
 use Rattle.std.proofs.lemmas.Bool.Decides.{nat_tests}
-use Rattle.strc_base.specs.Names.{value_named}
-use Rattle.strc_base.specs.Results.{result_and_then}
-use Rattle.strc_syntax.specs.Tree as tree
-use Rattle.strc_syntax.specs.declared.tree.UnaryOperator.{UnaryOperator}
-use Rattle.strc_syntax.specs.declared.tree.UnaryOperator.TheVariants as unary
-use Rattle.strc_syntax.specs.declared.tree.BinaryOperator.{BinaryOperator}
-use Rattle.strc_syntax.specs.declared.tree.BinaryOperator.TheVariants as binary
-use Rattle.strc_check.specs.declared.error.LowerError.{LowerError}
-use Rattle.strc_semantics.specs.declared.types.ValueType.{ValueType}
-use Rattle.strc_semantics.specs.declared.types.ValueType.TheVariants.{Int, Boolean, Array}
-use Rattle.strc_semantics.specs.Typing.{TypedNames, same_type, is_array}
-use Rattle.strc_check.specs.Resolution.{Context, Typed, where_kept, expect_type, constant_read}
-use Rattle.strc_check.specs.Resolution.{read_as, write_as, write_resolved, operand_type, sides_type}
-use Rattle.strc_check.specs.Resolution.{binary_type, unary_typed, binary_typed, conditional_typed}
-use Rattle.strc_check.specs.Resolution.{peek_typed, group_typed, step_resolved, array_resolved}
-use Rattle.strc_check.specs.Resolution.{element_typed, step_element_typed, expr_resolved, expr_as}
-use Rattle.strc_check.specs.Resolution.{initial_resolved, Called, called_as, called_among}
-use Rattle.strc_check.specs.Resolution.{call_given, value_called, called_typed, arguments_resolved}
-use Rattle.strc_check.specs.declared.signatures.Signature.{Signature}
-use Rattle.strc_check.specs.Signatures.{Signatures, given_type}
-use Rattle.strc_semantics.specs.Calls.{argument_count}
-use Rattle.strc_check.specs.declared.error.LowerErrorKind.TheVariants as refused
-use Rattle.strc_syntax.specs.declared.tree.HelperType.{HelperType}
-use Rattle.strc_syntax.specs.declared.tree.HelperType.TheVariants as helper
-use Rattle.strc_check.proofs.ResolvingExpressions.{Gives, then_gives}
+use Rattle.strc_lex_names.specs.Names.{value_named}
+use Rattle.strc_lex_names.specs.Results.{result_and_then}
+use Rattle.strc_parse_tree.specs.Tree as tree
+use Rattle.strc_parse_tree.specs.declared.tree.UnaryOperator.{UnaryOperator}
+use Rattle.strc_parse_tree.specs.declared.tree.UnaryOperator.TheVariants as unary
+use Rattle.strc_parse_tree.specs.declared.tree.BinaryOperator.{BinaryOperator}
+use Rattle.strc_parse_tree.specs.declared.tree.BinaryOperator.TheVariants as binary
+use Rattle.strc_work_rules.specs.declared.error.LowerError.{LowerError}
+use Rattle.strc_work_meaning.specs.declared.types.ValueType.{ValueType}
+use Rattle.strc_work_meaning.specs.declared.types.ValueType.TheVariants.{Int, Boolean, Array}
+use Rattle.strc_work_meaning.specs.Typing.{TypedNames, same_type, is_array}
+use Rattle.strc_work_rules.specs.Resolution.{Context, Typed, where_kept, expect_type, constant_read}
+use Rattle.strc_work_rules.specs.Resolution.{read_as, write_as, write_resolved, operand_type}
+use Rattle.strc_work_rules.specs.Resolution.{sides_type}
+use Rattle.strc_work_rules.specs.Resolution.{binary_type, unary_typed, binary_typed}
+use Rattle.strc_work_rules.specs.Resolution.{conditional_typed}
+use Rattle.strc_work_rules.specs.Resolution.{peek_typed, group_typed, step_resolved, array_resolved}
+use Rattle.strc_work_rules.specs.Resolution.{element_typed, step_element_typed, expr_resolved}
+use Rattle.strc_work_rules.specs.Resolution.{expr_as}
+use Rattle.strc_work_rules.specs.Resolution.{initial_resolved, Called, called_as, called_among}
+use Rattle.strc_work_rules.specs.Resolution.{call_given, value_called, called_typed}
+use Rattle.strc_work_rules.specs.Resolution.{arguments_resolved}
+use Rattle.strc_work_rules.specs.declared.signatures.Signature.{Signature}
+use Rattle.strc_work_rules.specs.Signatures.{Signatures, given_type}
+use Rattle.strc_work_meaning.specs.Calls.{argument_count}
+use Rattle.strc_work_rules.specs.declared.error.LowerErrorKind.TheVariants as refused
+use Rattle.strc_parse_tree.specs.declared.tree.HelperType.{HelperType}
+use Rattle.strc_parse_tree.specs.declared.tree.HelperType.TheVariants as helper
+use Rattle.strc_work_rules.proofs.ResolvingExpressions.{Gives, then_gives}
 use Rattle.strc_work.specs.Expressions.{IsVariable, SeesVariable, NameHasType}
 use Rattle.strc_work.specs.Expressions.{HasType, InitialHasType, Calls, AreNumbers}
 use Rattle.strc_work.proofs.Accepting.{kept_gives, kept_is, then_is, any_ok, given, is_ok_of}

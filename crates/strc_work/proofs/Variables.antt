@@ -8,11 +8,11 @@ use Rattle.std.proofs.lemmas.List.{length-drop, length-take-le, get_or-take, get
 use Rattle.std.proofs.lemmas.List.{ext_get_or, drop-map}
 use Rattle.std.proofs.Math.Seq.{take-add}
 use Rattle.std.proofs.lemmas.Bool.{false≢true, cases_lt}
-use Rattle.strc_semantics.specs.Scoping.{total, is_declared, slot_named, slot_of, size_named}
-use Rattle.strc_semantics.specs.Scoping.{size_of}
-use Rattle.strc_semantics.specs.Firing.{Variables, cells_named, with_cell, values_of}
-use Rattle.strc_semantics.specs.Closed.{IsNamed}
-pub use Rattle.strc_semantics.proofs.Calls.{scope_of}
+use Rattle.strc_work_meaning.specs.Scoping.{total, is_declared, slot_named, slot_of, size_named}
+use Rattle.strc_work_meaning.specs.Scoping.{size_of}
+use Rattle.strc_work_meaning.specs.Firing.{Variables, cells_named, with_cell, values_of}
+use Rattle.strc_work_meaning.specs.Closed.{IsNamed}
+pub use Rattle.strc_work_meaning.proofs.Calls.{scope_of}
 
 abbrev pub at : List ℤ → ℕ → ℤ
 at slots slot = get_or slots slot (pos 0)

@@ -1,13 +1,13 @@
 -- How a firing and a start answer.
 use Rattle.std.specs.Prelude.{◌≡◌, ℤ, List, ◌∷◌, ◌++◌, Result, Ok, Err, IfOk}
-use Rattle.strc_semantics.specs.declared.fault.Cause.{Cause}
-use Rattle.strc_semantics.specs.declared.fault.Halt.{Halt}
-use Rattle.strc_semantics.specs.declared.fault.Halt.TheVariants as halt
+use Rattle.strc_work_meaning.specs.declared.fault.Cause.{Cause}
+use Rattle.strc_work_meaning.specs.declared.fault.Halt.{Halt}
+use Rattle.strc_work_meaning.specs.declared.fault.Halt.TheVariants as halt
 use Rattle.strc_work.specs.declared.firing.StartError.{StartError}
 use Rattle.strc_work.specs.declared.firing.StartError.TheVariants as start
-use Rattle.strc_semantics.specs.declared.word.Word.{Word}
+use Rattle.strc_work_meaning.specs.declared.word.Word.{Word}
 use Rattle.strc_work.specs.Kept.{Kept}
-use Rattle.strc_semantics.specs.Firing.{Fired}
+use Rattle.strc_work_meaning.specs.Firing.{Fired}
 
 -- a firing gave these values of the fields and these pushes, and its words are after those before
 -- it

@@ -1,21 +1,21 @@
 -- Small expressions, statements and filters that are well typed, and some that aren't.
 use Rattle.std.specs.Prelude.{ℕ, ℤ, pos, true, List, [], ◌∷◌, Option, Some, None}
-use Rattle.strc_syntax.specs.Tree as tree
-use Rattle.strc_syntax.specs.declared.tree.ItemType.{ItemType}
-use Rattle.strc_syntax.specs.declared.tree.ItemType.TheVariants as item
-use Rattle.strc_syntax.specs.declared.tree.RateKind.{RateKind}
-use Rattle.strc_syntax.specs.declared.tree.RateKind.TheVariants as rate
-use Rattle.strc_syntax.specs.declared.tree.AssignOperator.TheVariants as assign
-use Rattle.strc_syntax.specs.declared.tree.UnaryOperator.TheVariants as unary
-use Rattle.strc_syntax.specs.declared.tree.BinaryOperator.TheVariants as binary
-use Rattle.strc_syntax.specs.declared.tree.StepOperator.TheVariants as step
-use Rattle.strc_semantics.specs.Filters.{Filter}
-use Rattle.strc_semantics.specs.declared.types.ValueType.{ValueType}
-use Rattle.strc_semantics.specs.declared.types.ValueType.TheVariants.{Int, Boolean, Array}
-use Rattle.strc_semantics.specs.Typing.{TypedNames}
-use Rattle.strc_syntax.specs.declared.tree.HelperType.{HelperType}
-use Rattle.strc_syntax.specs.declared.tree.HelperType.TheVariants as helper
-use Rattle.strc_check.specs.Resolution.{Context, body_context, init_context, rate_context}
+use Rattle.strc_parse_tree.specs.Tree as tree
+use Rattle.strc_parse_tree.specs.declared.tree.ItemType.{ItemType}
+use Rattle.strc_parse_tree.specs.declared.tree.ItemType.TheVariants as item
+use Rattle.strc_parse_tree.specs.declared.tree.RateKind.{RateKind}
+use Rattle.strc_parse_tree.specs.declared.tree.RateKind.TheVariants as rate
+use Rattle.strc_parse_tree.specs.declared.tree.AssignOperator.TheVariants as assign
+use Rattle.strc_parse_tree.specs.declared.tree.UnaryOperator.TheVariants as unary
+use Rattle.strc_parse_tree.specs.declared.tree.BinaryOperator.TheVariants as binary
+use Rattle.strc_parse_tree.specs.declared.tree.StepOperator.TheVariants as step
+use Rattle.strc_work_meaning.specs.Filters.{Filter}
+use Rattle.strc_work_meaning.specs.declared.types.ValueType.{ValueType}
+use Rattle.strc_work_meaning.specs.declared.types.ValueType.TheVariants.{Int, Boolean, Array}
+use Rattle.strc_work_meaning.specs.Typing.{TypedNames}
+use Rattle.strc_parse_tree.specs.declared.tree.HelperType.{HelperType}
+use Rattle.strc_parse_tree.specs.declared.tree.HelperType.TheVariants as helper
+use Rattle.strc_work_rules.specs.Resolution.{Context, body_context, init_context, rate_context}
 use Rattle.strc_work.specs.Expressions.{HasType}
 use Rattle.strc_work.specs.Numbers.{HasNumber}
 use Rattle.strc_work.specs.Statements.{IsWellFormed}

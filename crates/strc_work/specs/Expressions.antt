@@ -1,15 +1,15 @@
 -- Which expressions have a type, and which one.
 use Rattle.std.specs.Prelude.{◌≡◌, ◌⊎◌, ℕ, List, Option, Some, None, IsTrue, IsFalse, IsNone}
 use Rattle.std.specs.Prelude.{IsSome}
-use Rattle.strc_base.specs.Names.{value_named}
-use Rattle.strc_syntax.specs.Tree as tree
-use Rattle.strc_syntax.specs.declared.tree.HelperType.{HelperType}
-use Rattle.strc_check.specs.Signatures.{Signatures, given_type}
-use Rattle.strc_semantics.specs.Calls.{argument_count}
-use Rattle.strc_semantics.specs.declared.types.ValueType.{ValueType}
-use Rattle.strc_semantics.specs.declared.types.ValueType.TheVariants.{Int, Boolean, Array}
-use Rattle.strc_semantics.specs.Typing.{TypedNames, is_array}
-use Rattle.strc_check.specs.Resolution.{Context, operand_type, sides_type, binary_type}
+use Rattle.strc_lex_names.specs.Names.{value_named}
+use Rattle.strc_parse_tree.specs.Tree as tree
+use Rattle.strc_parse_tree.specs.declared.tree.HelperType.{HelperType}
+use Rattle.strc_work_rules.specs.Signatures.{Signatures, given_type}
+use Rattle.strc_work_meaning.specs.Calls.{argument_count}
+use Rattle.strc_work_meaning.specs.declared.types.ValueType.{ValueType}
+use Rattle.strc_work_meaning.specs.declared.types.ValueType.TheVariants.{Int, Boolean, Array}
+use Rattle.strc_work_meaning.specs.Typing.{TypedNames, is_array}
+use Rattle.strc_work_rules.specs.Resolution.{Context, operand_type, sides_type, binary_type}
 
 -- the innermost variable of this name has this type
 abbrev pub IsVariable : TypedNames → List ℕ → ValueType → Type 0

@@ -1,17 +1,17 @@
 -- Which filters are well typed.
 use Rattle.std.specs.Prelude.{◌≡◌, ℕ, ◌≤◌, ℤ, pos, ◌<ℤ◌, List, [], ◌∷◌, length, IsTrue, IsFalse}
-use Rattle.strc_base.specs.Names.{has_name}
-use Rattle.strc_syntax.specs.Tree as tree
-use Rattle.strc_syntax.specs.declared.tree.ItemType.{ItemType}
-use Rattle.strc_semantics.specs.Filters.{Filter, work_count}
-use Rattle.strc_semantics.specs.declared.types.ValueType.{ValueType}
-use Rattle.strc_semantics.specs.Typing.{TypedNames, type_of, names_after_fields}
-use Rattle.strc_check.specs.Resolution.{Context, carries_items, side_of, start_context}
-use Rattle.strc_check.specs.Resolution.{is_field_taken}
-use Rattle.strc_check.specs.Resolution.{helper_context, body_context, is_taken, known_after}
-use Rattle.strc_check.specs.Signatures.{Signatures, signatures_after, with_parameters}
-use Rattle.strc_semantics.specs.declared.types.ValueType.TheVariants.{Int}
-use Rattle.strc_check.specs.Resolution.{fields_after, prework_count, init_count}
+use Rattle.strc_lex_names.specs.Names.{has_name}
+use Rattle.strc_parse_tree.specs.Tree as tree
+use Rattle.strc_parse_tree.specs.declared.tree.ItemType.{ItemType}
+use Rattle.strc_work_meaning.specs.Filters.{Filter, work_count}
+use Rattle.strc_work_meaning.specs.declared.types.ValueType.{ValueType}
+use Rattle.strc_work_meaning.specs.Typing.{TypedNames, type_of, names_after_fields}
+use Rattle.strc_work_rules.specs.Resolution.{Context, carries_items, side_of, start_context}
+use Rattle.strc_work_rules.specs.Resolution.{is_field_taken}
+use Rattle.strc_work_rules.specs.Resolution.{helper_context, body_context, is_taken, known_after}
+use Rattle.strc_work_rules.specs.Signatures.{Signatures, signatures_after, with_parameters}
+use Rattle.strc_work_meaning.specs.declared.types.ValueType.TheVariants.{Int}
+use Rattle.strc_work_rules.specs.Resolution.{fields_after, prework_count, init_count}
 use Rattle.strc_work.specs.Expressions.{InitialHasType}
 use Rattle.strc_work.specs.Numbers.{HasNumber}
 use Rattle.strc_work.specs.Statements.{IsDeclarable, AreWellFormed}

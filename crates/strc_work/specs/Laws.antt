@@ -1,17 +1,18 @@
 -- What the rules' walk has to do with the relation, each the contract of a function of `laws`.
 use Rattle.std.specs.Prelude.{◌≡◌, ◌↔◌, ℕ, ℤ, List, Ok, IsOk}
-use Rattle.strc_base.specs.Results.{result_and_then}
-use Rattle.strc_syntax.specs.Tree as tree
-use Rattle.strc_syntax.specs.declared.tree.ItemType.{ItemType}
-use Rattle.strc_semantics.specs.Constants.{IsConstant, constant_value}
-use Rattle.strc_semantics.specs.Filters.{Filter}
-use Rattle.strc_semantics.specs.Firing.{Setting, Store, value_of}
-use Rattle.strc_semantics.specs.declared.types.ValueType.{ValueType}
-use Rattle.strc_semantics.specs.Typing.{TypedNames}
-use Rattle.strc_check.specs.Resolution.{Context, expr_resolved, expr_as, number_resolved}
-use Rattle.strc_check.specs.Resolution.{type_resolved, stmt_resolved, stmts_resolved, rate_resolved}
-use Rattle.strc_check.specs.Resolution.{members_resolved, filter_resolved}
-use Rattle.strc_check.specs.Signatures.{Signatures}
+use Rattle.strc_lex_names.specs.Results.{result_and_then}
+use Rattle.strc_parse_tree.specs.Tree as tree
+use Rattle.strc_parse_tree.specs.declared.tree.ItemType.{ItemType}
+use Rattle.strc_work_meaning.specs.Constants.{IsConstant, constant_value}
+use Rattle.strc_work_meaning.specs.Filters.{Filter}
+use Rattle.strc_work_meaning.specs.Firing.{Setting, Store, value_of}
+use Rattle.strc_work_meaning.specs.declared.types.ValueType.{ValueType}
+use Rattle.strc_work_meaning.specs.Typing.{TypedNames}
+use Rattle.strc_work_rules.specs.Resolution.{Context, expr_resolved, expr_as, number_resolved}
+use Rattle.strc_work_rules.specs.Resolution.{type_resolved, stmt_resolved, stmts_resolved}
+use Rattle.strc_work_rules.specs.Resolution.{rate_resolved}
+use Rattle.strc_work_rules.specs.Resolution.{members_resolved, filter_resolved}
+use Rattle.strc_work_rules.specs.Signatures.{Signatures}
 use Rattle.strc_work.specs.Expressions.{HasType}
 use Rattle.strc_work.specs.Numbers.{HasNumber}
 use Rattle.strc_work.specs.Statements.{IsDeclarable, IsWellFormed, AreWellFormed}

@@ -1,10 +1,10 @@
 -- The number of a constant expression, by the meaning of expressions.
 use Rattle.std.specs.Prelude.{◌≡◌, ℕ, ℤ, List, [], ◌∷◌, Ok}
-use Rattle.strc_syntax.specs.Tree as tree
-use Rattle.strc_semantics.specs.Firing.{Setting, Traffic, Variables, Store, value_of}
-use Rattle.strc_semantics.specs.declared.types.ValueType.TheVariants.{Int}
-use Rattle.strc_semantics.specs.Typing.{TypedNames}
-use Rattle.strc_check.specs.Resolution.{rate_context}
+use Rattle.strc_parse_tree.specs.Tree as tree
+use Rattle.strc_work_meaning.specs.Firing.{Setting, Traffic, Variables, Store, value_of}
+use Rattle.strc_work_meaning.specs.declared.types.ValueType.TheVariants.{Int}
+use Rattle.strc_work_meaning.specs.Typing.{TypedNames}
+use Rattle.strc_work_rules.specs.Resolution.{rate_context}
 use Rattle.strc_work.specs.Expressions.{HasType}
 
 -- each constant as a variable that holds its value

@@ -1,6 +1,6 @@
 -- What a halt means at the start.
-use Rattle.strc_semantics.specs.declared.fault.Halt.{Halt}
-use Rattle.strc_semantics.specs.declared.fault.Halt.TheVariants as halt
+use Rattle.strc_work_meaning.specs.declared.fault.Halt.{Halt}
+use Rattle.strc_work_meaning.specs.declared.fault.Halt.TheVariants as halt
 use Rattle.strc_work.specs.declared.firing.StartError.{StartError}
 use Rattle.strc_work.specs.declared.firing.StartError.TheVariants as start
 

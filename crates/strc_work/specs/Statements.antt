@@ -1,17 +1,17 @@
 -- Which declared types, declarations, statements and blocks are well formed.
 use Rattle.std.specs.Prelude.{◌≡◌, ℕ, ℤ, pos, ◌≤ℤ◌, List, [], ◌∷◌, length, IsTrue, IsFalse, Option}
 use Rattle.std.specs.Prelude.{Some, None}
-use Rattle.strc_syntax.specs.Tree as tree
-use Rattle.strc_syntax.specs.declared.tree.AssignOperator.{AssignOperator}
-use Rattle.strc_syntax.specs.declared.tree.AssignOperator.TheVariants as assign
-use Rattle.strc_check.specs.declared.type_rules.TheConstants.{LENGTH_LIMIT}
-use Rattle.strc_semantics.specs.declared.types.ValueType.{ValueType}
-use Rattle.strc_semantics.specs.declared.types.ValueType.TheVariants.{Int, Boolean, Array}
-use Rattle.strc_semantics.specs.Typing.{TypedNames, type_of, names_after}
-use Rattle.strc_check.specs.Resolution.{Context, is_taken}
-use Rattle.strc_check.specs.Signatures.{given_type}
-use Rattle.strc_semantics.specs.Calls.{argument_count}
-use Rattle.strc_syntax.specs.declared.tree.HelperType.{HelperType}
+use Rattle.strc_parse_tree.specs.Tree as tree
+use Rattle.strc_parse_tree.specs.declared.tree.AssignOperator.{AssignOperator}
+use Rattle.strc_parse_tree.specs.declared.tree.AssignOperator.TheVariants as assign
+use Rattle.strc_work_rules.specs.declared.type_rules.TheConstants.{LENGTH_LIMIT}
+use Rattle.strc_work_meaning.specs.declared.types.ValueType.{ValueType}
+use Rattle.strc_work_meaning.specs.declared.types.ValueType.TheVariants.{Int, Boolean, Array}
+use Rattle.strc_work_meaning.specs.Typing.{TypedNames, type_of, names_after}
+use Rattle.strc_work_rules.specs.Resolution.{Context, is_taken}
+use Rattle.strc_work_rules.specs.Signatures.{given_type}
+use Rattle.strc_work_meaning.specs.Calls.{argument_count}
+use Rattle.strc_parse_tree.specs.declared.tree.HelperType.{HelperType}
 use Rattle.strc_work.specs.Expressions.{IsVariable, SeesVariable, HasType, InitialHasType, Calls}
 use Rattle.strc_work.specs.Expressions.{AreNumbers}
 use Rattle.strc_work.specs.Numbers.{HasNumber}

@@ -5,10 +5,10 @@ ghost use Rattle.std.specs.Prelude.{None, ◌<◌};
 ghost use Rattle.strc_work.specs.Calls.{begun_slots, ended_slots, code_at};
 
 use std::marker::Model;
-use strc_code::call::Call;
-use strc_code::code::Code;
-use strc_code::helper::HelperCode;
-use strc_semantics::fault::CALL_LIMIT;
+use strc_work_code::call::Call;
+use strc_work_code::code::Code;
+use strc_work_code::helper::HelperCode;
+use strc_work_meaning::fault::CALL_LIMIT;
 
 /// A filter's helper functions, and how many more calls may be running at once. Contracts see the
 /// filter, the helper functions' code, and how many slots fields and calls need.
@@ -23,8 +23,8 @@ pub struct Calls<'a> {
 
 impl<'a> Model for Calls<'a> {
     ghost use Rattle.std.specs.Coded.{codes};
-    ghost use Rattle.strc_syntax.specs.contracts.tree.FilterTree as filter_tree;
-    ghost use Rattle.strc_code.specs.contracts.helper.HelperCode as helper_code;
+    ghost use Rattle.strc_parse_tree.specs.contracts.tree.FilterTree as filter_tree;
+    ghost use Rattle.strc_work_code.specs.contracts.helper.HelperCode as helper_code;
     ghost use Rattle.strc_work.specs.Calls.{Callable, IsCallable};
 
     ghost Value = { Callable };
@@ -50,8 +50,8 @@ impl<'a> Model for Calls<'a> {
 
 impl<'a> Calls<'a> {
     ghost use Rattle.std.specs.Prelude.{◌≡◌, ◌≤◌, ◌-◌, IfSome, Some, None, ◌<◌};
-    ghost use Rattle.strc_semantics.specs.Firing.{call_limit};
-    ghost use Rattle.strc_code.specs.Links.{place_of};
+    ghost use Rattle.strc_work_meaning.specs.Firing.{call_limit};
+    ghost use Rattle.strc_work_code.specs.Links.{place_of};
     ghost use Rattle.strc_work.specs.Calls.{IsFound, IsRefused, one_level_in, IsCallable, names_in};
 
     /// The helper functions of a code, none of which is running.

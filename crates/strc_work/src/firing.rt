@@ -1,9 +1,9 @@
 // The start of a filter's code, and its firings.
 
 ghost use Rattle.std.specs.Prelude.{◌≡◌, [], IfOk};
-ghost use Rattle.strc_semantics.specs.Filters as filters;
-ghost use Rattle.strc_semantics.specs.Firing.{started, fired};
-ghost use Rattle.strc_instructions.specs.Running.{MoreWords, WantsOnlyWords};
+ghost use Rattle.strc_work_meaning.specs.Filters as filters;
+ghost use Rattle.strc_work_meaning.specs.Firing.{started, fired};
+ghost use Rattle.strc_work_instructions.specs.Running.{MoreWords, WantsOnlyWords};
 ghost use Rattle.strc_work.specs.Answers.{Starts, Fires, WantsGivenWords};
 ghost use Rattle.strc_work.specs.StartErrors.{start_error_of};
 ghost use Rattle.strc_work.specs.States.{IsStateOf, IsFrameOf};
@@ -14,14 +14,14 @@ use crate::frame::Frame;
 use crate::machine;
 use crate::state::State;
 use std::alloc::Global;
-use strc_base::memory::NoMemory;
-use strc_code::limits::FiringLimits;
-use strc_instructions::io::FiringIo;
-use strc_instructions::port::FiringPort;
-use strc_instructions::window::Window;
-use strc_semantics::body::Body;
-use strc_semantics::fault::{Cause, Halt};
-use strc_semantics::word::Word;
+use strc_lex_names::memory::NoMemory;
+use strc_work_code::limits::FiringLimits;
+use strc_work_instructions::io::FiringIo;
+use strc_work_instructions::port::FiringPort;
+use strc_work_instructions::window::Window;
+use strc_work_meaning::body::Body;
+use strc_work_meaning::fault::{Cause, Halt};
+use strc_work_meaning::word::Word;
 use thiserror::Error;
 
 /// Why a filter can't start.
@@ -38,9 +38,9 @@ pub enum StartError {
 /// What starts and fires: a filter's code. Contracts see the filter.
 pub trait Fire {
     ghost use Rattle.std.specs.Prelude.{[], ◌≡◌, IfOk};
-    ghost use Rattle.strc_semantics.specs.Filters.{Filter, body_prints};
-    ghost use Rattle.strc_semantics.specs.Firing.{started, fired};
-    ghost use Rattle.strc_instructions.specs.Running.{MoreWords, WantsOnlyWords};
+    ghost use Rattle.strc_work_meaning.specs.Filters.{Filter, body_prints};
+    ghost use Rattle.strc_work_meaning.specs.Firing.{started, fired};
+    ghost use Rattle.strc_work_instructions.specs.Running.{MoreWords, WantsOnlyWords};
     ghost use Rattle.strc_work.specs.Answers.{Starts, Fires, WantsGivenWords};
     ghost use Rattle.strc_work.specs.States.{IsStateOf, IsFrameOf};
 
@@ -79,7 +79,7 @@ pub trait Fire {
 }
 
 impl Fire for Code {
-    ghost use Rattle.strc_semantics.specs.Filters.{filter_of};
+    ghost use Rattle.strc_work_meaning.specs.Filters.{filter_of};
 
     ghost filter = { filter_of };
 

@@ -3,7 +3,7 @@
 ghost use Rattle.std.specs.Prelude.{◌≡◌};
 
 use std::marker::Model;
-use strc_instructions::io::FiringIo;
+use strc_work_instructions::io::FiringIo;
 
 /// The items that a firing has pushed, with room for as many as it may push, and room for the
 /// locals of callers that wait for their calls. Contracts see the items and both rooms.

@@ -1,4 +1,4 @@
-// What the walk of `strc_check` has to do with the relation, as laws over definitions.
+// What the walk of `strc_work_rules` has to do with the relation, as laws over definitions.
 
 ghost use Rattle.strc_work.specs.Laws.{WalkGivesTypes, WalkAcceptsValues, TypesAreUnique};
 ghost use Rattle.strc_work.specs.Laws.{WalkGivesNumbers, NumbersAreUnique};

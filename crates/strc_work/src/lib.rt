@@ -4,8 +4,9 @@
 // The theorems to rely on: a firing of the code is the big-step meaning of the tree; `machine::run`
 // does what the code says; `walk_accepts_filters`: the rules accept a filter exactly where it is
 // well typed.
-// Stands on strc_check, whose rules it asks, on strc_lowering, which writes the code, on
-// strc_instructions, which does one instruction, and on strc_semantics, whose meaning it keeps.
+// Stands on strc_work_rules, whose rules it asks, on strc_work_lowering, which writes the code, on
+// strc_work_instructions, which does one instruction, and on strc_work_meaning, whose meaning it
+// keeps.
 #![tactic(auto)]
 
 mod apart;
@@ -22,6 +23,8 @@ mod short_loop;
 pub mod state;
 mod tested_loop;
 
-pub use strc_code::code;
-pub use strc_instructions::window;
-pub use strc_semantics::{body, constants, fault, word};
+pub use strc_lex_names::memory;
+pub use strc_work_code::code;
+pub use strc_work_instructions::{shifted_window, window};
+pub use strc_work_meaning::{body, constants, fault, word};
+pub use strc_work_rules::error;

@@ -1,18 +1,18 @@
 // From a filter's syntax tree to its code.
 
-ghost use Rattle.strc_semantics.specs.Filters.{filter_of, filter_parts};
-ghost use Rattle.strc_check.specs.RefusedPlaces.{Stands, filter_place};
-ghost use Rattle.strc_check.specs.Resolution.{filter_resolved};
-ghost use Rattle.strc_check.specs.Verdicts.{IsVerdict};
+ghost use Rattle.strc_work_meaning.specs.Filters.{filter_of, filter_parts};
+ghost use Rattle.strc_work_rules.specs.RefusedPlaces.{Stands, filter_place};
+ghost use Rattle.strc_work_rules.specs.Resolution.{filter_resolved};
+ghost use Rattle.strc_work_rules.specs.Verdicts.{IsVerdict};
 
 use crate::code::Code;
 use std::alloc::Global;
-use strc_base::place::Span;
-use strc_check::error::{LowerError, placed};
-use strc_check::resolution;
-use strc_lowering::emission;
-use strc_semantics::constants::Constants;
-use strc_syntax::tree::{FilterTree, ItemType, Member};
+use strc_lex_names::place::Span;
+use strc_parse_tree::tree::{FilterTree, ItemType, Member};
+use strc_work_lowering::emission;
+use strc_work_meaning::constants::Constants;
+use strc_work_rules::error::{LowerError, placed};
+use strc_work_rules::resolution;
 
 /// The code of a filter, with its constants substituted.
 pub fn lower(alloc: Global, tree: &FilterTree, constants: &Constants) -> Result<Code, LowerError>

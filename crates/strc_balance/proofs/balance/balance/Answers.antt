@@ -1,6 +1,6 @@
 use Rattle.std.proofs.Common.{◌≡◌, ◌∙◌, length, All, sym, subst, IfOk}
 use Rattle.std.proofs.lemmas.List.{length-map}
-use Rattle.strc_graph.specs.NodeView.{graph_view, node_view}
+use Rattle.strc_elab_graph.specs.NodeView.{graph_view, node_view}
 use Rattle.strc_balance.specs.Balance.{HasRates}
 use Rattle.strc_balance.specs.Rates.{equations_of, size_of}
 use Rattle.strc_balance.specs.Verdicts.{judged}

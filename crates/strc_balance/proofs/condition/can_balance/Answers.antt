@@ -1,6 +1,6 @@
 use Rattle.std.proofs.Common.{◌∙◌, ◌↔◌, true, length, All, IfOk, sym, subst, rules}
 use Rattle.std.specs.Prelude.{IsTrue}
-use Rattle.strc_graph.specs.NodeView.{graph_view}
+use Rattle.strc_elab_graph.specs.NodeView.{graph_view}
 use Rattle.strc_balance.specs.Balance.{HasRates, AreConnected}
 use Rattle.strc_balance.specs.Rates.{IsRated, equations_of, size_of}
 use Rattle.strc_balance.proofs.Channels.{can_be}

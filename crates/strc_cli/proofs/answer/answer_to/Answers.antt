@@ -5,7 +5,7 @@ use Rattle.strc_cli.specs.Answering.{choice_of, HasSize, IsAsked, IsAnswered, Re
 use Rattle.strc_run.specs.Choices.{Choice}
 use Rattle.strc_cli.specs.Drawing.{IsDrawn}
 use Rattle.strc_cli.specs.declared.answer.Answer.TheVariants as answer
-use Rattle.strc_cli.specs.declared.line.Command.{Command}
+use Rattle.strc_cli_words.specs.declared.line.Command.{Command}
 use Rattle.strc_cli.proofs.PlanAnswers.{plan_size, reads_text, same_choice}
 use Rattle.strc_cli.proofs.Refusing.{drawn_unrefused}
 use Rattle.strc_cli.proofs.answer.answer_to.Goals as goal

@@ -2,9 +2,9 @@ use Rattle.std.proofs.Common.{ℤ, List, Result, subst, sym}
 use Rattle.strc_cli.specs.Answering.{IsAnswered}
 use Rattle.strc_cli.specs.Input.{IsRunAnswer}
 use Rattle.strc_cli.specs.declared.answer.Answer.{Answer}
-use Rattle.strc_output.specs.declared.stop.Stop.{Stop}
+use Rattle.strc_cli_output.specs.declared.stop.Stop.{Stop}
 use Rattle.strc_cli.specs.declared.execute.CliError.{CliError}
-use Rattle.strc_cli.specs.declared.line.Command.TheVariants as command
+use Rattle.strc_cli_words.specs.declared.line.Command.TheVariants as command
 use Rattle.strc_cli.proofs.PlanAnswers.{input_run, stopped_run}
 use Rattle.strc_cli.proofs.answer.run_plan.Goals as goal
 

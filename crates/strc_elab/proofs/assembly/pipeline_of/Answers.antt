@@ -1,6 +1,6 @@
 use Rattle.std.proofs.Common.{map, ap, ◌∙◌}
-use Rattle.strc_stream.specs.Instances as instances
-use Rattle.strc_stream.specs.View.{stream_view}
+use Rattle.strc_elab_stream.specs.Instances as instances
+use Rattle.strc_elab_stream.specs.View.{stream_view}
 use Rattle.strc_elab.proofs.Views.{stream_view-Pipeline, elaborated_same}
 use Rattle.strc_elab.proofs.assembly.pipeline_of.Goals as goal
 

@@ -1,7 +1,7 @@
 use Rattle.std.proofs.Common.{map, ap, ◌∙◌, option_map}
-use Rattle.strc_graph.specs.NodeView.{splitter_view}
-use Rattle.strc_stream.specs.Instances as instances
-use Rattle.strc_stream.specs.View.{stream_view}
+use Rattle.strc_elab_graph.specs.NodeView.{splitter_view}
+use Rattle.strc_elab_stream.specs.Instances as instances
+use Rattle.strc_elab_stream.specs.View.{stream_view}
 use Rattle.strc_elab.proofs.Views.{stream_view-SplitJoin, elaborated_same}
 use Rattle.strc_elab.proofs.assembly.splitjoin_of.Goals as goal
 

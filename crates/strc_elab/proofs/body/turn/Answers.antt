@@ -1,6 +1,6 @@
 use Rattle.std.proofs.Common.{ap, arith}
-use Rattle.strc_statements.specs.Statements.{computed}
-use Rattle.strc_statements.specs.Saying.{store_of}
+use Rattle.strc_elab_statements.specs.Statements.{computed}
+use Rattle.strc_elab_statements.specs.Saying.{store_of}
 use Rattle.strc_elab.proofs.Turns.{turned_under, turned_over}
 use Rattle.strc_elab.proofs.body.turn.Goals as goal
 

@@ -1,6 +1,6 @@
 use Rattle.std.proofs.Common.{◌≡◌, ◌+◌, true, false, drop, sym, ap, ◌∙◌, arith}
-use Rattle.strc_base.specs.Names.{has_name, plain_names}
-use Rattle.strc_semantics.specs.Typing.{TypedNames}
+use Rattle.strc_lex_names.specs.Names.{has_name, plain_names}
+use Rattle.strc_work_meaning.specs.Typing.{TypedNames}
 use Rattle.strc_elab.proofs.Doubles.{doubled_after, doubled_at_first, doubled_here, doubled_further}
 use Rattle.strc_elab.proofs.Doubles.{doubled_no_more, all_names}
 use Rattle.strc_elab.proofs.child.doubled.Goals as goal

@@ -1,6 +1,6 @@
 use Rattle.std.proofs.Common.{◌≡◌, drop}
-use Rattle.strc_base.specs.Names.{plain_names}
-use Rattle.strc_statements.specs.Texts.{is_doubled}
+use Rattle.strc_lex_names.specs.Names.{plain_names}
+use Rattle.strc_elab_statements.specs.Texts.{is_doubled}
 use Rattle.strc_elab.proofs.Doubles.{doubled_after}
 use Rattle.strc_elab.proofs.child.doubled.Given as goal
 

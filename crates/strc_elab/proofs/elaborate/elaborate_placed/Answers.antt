@@ -1,7 +1,7 @@
 use Rattle.std.proofs.Common.{◌≡◌, Ok, option_map, rules}
-use Rattle.strc_syntax.specs.View.{program_view}
+use Rattle.strc_parse_tree.specs.View.{program_view}
 use Rattle.strc_elab.specs.Elaboration.{elaborated}
-use Rattle.strc_stream.specs.View.{stream_view}
+use Rattle.strc_elab_stream.specs.View.{stream_view}
 use Rattle.strc_elab.proofs.Soundness.{elaborated_is_sound}
 use Rattle.strc_elab.proofs.elaborate.elaborate_placed.Goals as goal
 

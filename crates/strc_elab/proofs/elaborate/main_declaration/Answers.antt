@@ -1,5 +1,5 @@
 use Rattle.std.proofs.Common.{rules, ◌≡◌, ℕ, ◌<◌, length, get_or, Ok, option_map, ap, ◌∙◌, arith}
-use Rattle.strc_syntax.specs.View.{declaration_view}
+use Rattle.strc_parse_tree.specs.View.{declaration_view}
 use Rattle.strc_elab.proofs.Mains.{main_at, numbered_at}
 use Rattle.strc_elab.proofs.elaborate.main_declaration.Goals as goal
 

@@ -1,6 +1,6 @@
 use Rattle.std.proofs.Common.{ℕ, map, subst, ◌∙◌}
-use Rattle.strc_syntax.specs.Tree.{Declaration}
-use Rattle.strc_syntax.specs.View.{declaration_view}
+use Rattle.strc_parse_tree.specs.Tree.{Declaration}
+use Rattle.strc_parse_tree.specs.View.{declaration_view}
 use Rattle.strc_elab.specs.Answering.{IsPlacedVerdict, IsPlaced}
 use Rattle.strc_elab.specs.Sources.{text_source}
 use Rattle.strc_elab.specs.Tasks.{elaborated_view, text_view}

@@ -1,5 +1,5 @@
 use Rattle.std.proofs.Common.{◌≡◌, ◌++◌, map}
-use Rattle.strc_graph.specs.NodeView.{channel_view}
+use Rattle.strc_elab_graph.specs.NodeView.{channel_view}
 use Rattle.strc_fiss.specs.Splitting as spec
 use Rattle.strc_fiss.specs.WireView.{wire_view}
 use Rattle.strc_fiss.proofs.channels.channels_of.Given as goal

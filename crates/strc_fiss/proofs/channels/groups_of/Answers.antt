@@ -1,8 +1,8 @@
 use Rattle.std.proofs.Common.{◌∙◌, ap, sym, subst, ℕ, List, length, map, get_or, take, arith, ◌+◌}
 use Rattle.std.proofs.lemmas.List.{length-map}
-use Rattle.strc_graph.specs.Graphs as graphs
-use Rattle.strc_graph.specs.NodeView.{channel_view}
-use Rattle.strc_graph.specs.declared.graph.Channel as declared_channel
+use Rattle.strc_elab_graph.specs.Graphs as graphs
+use Rattle.strc_elab_graph.specs.NodeView.{channel_view}
+use Rattle.strc_elab_graph.specs.declared.graph.Channel as declared_channel
 use Rattle.strc_fiss.specs.Groups.{AreGroups}
 use Rattle.strc_fiss.specs.Numbers.{share_at, up_to, base}
 use Rattle.strc_fiss.specs.Splitting.{Wire, wires_of, inner_wires, renamed_channel}

@@ -1,5 +1,5 @@
 use Rattle.std.proofs.Common.{take, map, length}
-use Rattle.strc_graph.specs.NodeView.{channel_view}
+use Rattle.strc_elab_graph.specs.NodeView.{channel_view}
 use Rattle.strc_fiss.specs.Groups.{AreGroups}
 use Rattle.strc_fiss.specs.Numbers.{share_at}
 use Rattle.strc_fiss.specs.Splitting.{wires_of}

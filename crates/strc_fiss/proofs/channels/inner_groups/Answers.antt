@@ -1,5 +1,5 @@
 use Rattle.std.proofs.Common.{◌∙◌, ap, ap₂, map, [], ℕ, length, arith}
-use Rattle.strc_graph.specs.declared.graph.Fission.{Fission}
+use Rattle.strc_elab_graph.specs.declared.graph.Fission.{Fission}
 use Rattle.strc_fiss.specs.Numbers.{share_at, base}
 use Rattle.strc_fiss.specs.Splitting.{inner_wires}
 use Rattle.strc_fiss.specs.WireView.{group_view}

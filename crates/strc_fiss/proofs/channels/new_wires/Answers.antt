@@ -1,7 +1,7 @@
 use Rattle.std.proofs.Common.{◌≡◌, ◌∙◌, map, length, List, Vec}
 use Rattle.std.specs.Global.{Global}
 use Rattle.std.specs.List.{flat_map}
-use Rattle.strc_graph.specs.NodeView.{channel_view, graph_view}
+use Rattle.strc_elab_graph.specs.NodeView.{channel_view, graph_view}
 use Rattle.strc_fiss.specs.declared.channels.Wire as declared
 use Rattle.strc_fiss.specs.Numbers.{share_at}
 use Rattle.strc_fiss.specs.Splitting.{Wire, wires_of, split_wires}
@@ -10,7 +10,7 @@ use Rattle.strc_fiss.proofs.Grouped.{groups_joined}
 use Rattle.strc_fiss.proofs.Outcomes.{if_ok}
 use Rattle.strc_fiss.proofs.channels.new_wires.Goals as goal
 use Rattle.std.proofs.lemmas.List.{length-map}
-use Rattle.strc_graph.specs.NodeView.{node_view}
+use Rattle.strc_elab_graph.specs.NodeView.{node_view}
 use Rattle.std.proofs.Common.{ap, sym}
 use Rattle.strc_fiss.specs.Splitting.{leaving}
 use Rattle.strc_fiss.specs.Numbers.{joined_up_to}

@@ -1,6 +1,6 @@
 use Rattle.std.proofs.Common.{◌∙◌, ap, ap₂, ℕ, ℤ, List, length, arith, ◌+◌}
-use Rattle.strc_graph.specs.Graphs as graphs
-use Rattle.strc_graph.specs.declared.graph.Fission.{Fission}
+use Rattle.strc_elab_graph.specs.Graphs as graphs
+use Rattle.strc_elab_graph.specs.declared.graph.Fission.{Fission}
 use Rattle.strc_fiss.specs.Numbers.{share_at, base, last_of}
 use Rattle.strc_fiss.specs.Splitting.{port}
 use Rattle.strc_fiss.proofs.Bases.{bases_many, base_read, share_read, parts_within}

@@ -1,7 +1,7 @@
 use Rattle.std.proofs.Common.{◌≡◌, ◌∙◌, ap, subst, ℕ, List, IfOk}
 use mathlib.Core.Path.{fun_ext}
-use Rattle.strc_graph.specs.NodeView.{graph_view}
-use Rattle.strc_graph.specs.declared.graph.Fission.{Fission}
+use Rattle.strc_elab_graph.specs.NodeView.{graph_view}
+use Rattle.strc_elab_graph.specs.declared.graph.Fission.{Fission}
 use Rattle.strc_fiss.specs.Fissions.{IsFission, SplitPasses}
 use Rattle.strc_fiss.specs.Numbers.{share_at}
 use Rattle.strc_fiss.specs.Ways.{fission_of}

@@ -1,7 +1,7 @@
 use Rattle.std.proofs.Common.{◌≡◌, ◌∙◌, ap, sym, subst, List, length, map, All}
-use Rattle.strc_graph.specs.Graphs.{JoinsPorts, NodeCode}
-use Rattle.strc_graph.specs.NodeView.{node_view, channel_view}
-use Rattle.strc_graph.specs.declared.graph.Node.{Node}
+use Rattle.strc_elab_graph.specs.Graphs.{JoinsPorts, NodeCode}
+use Rattle.strc_elab_graph.specs.NodeView.{node_view, channel_view}
+use Rattle.strc_elab_graph.specs.declared.graph.Node.{Node}
 use Rattle.strc_fiss.specs.Numbers.{share_at, each_part}
 use Rattle.strc_fiss.specs.Splitting.{new_code, new_loop}
 use Rattle.strc_fiss.proofs.Lookup.{part_many}

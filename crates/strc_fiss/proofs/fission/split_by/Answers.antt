@@ -1,10 +1,10 @@
 use Rattle.std.proofs.Common.{◌≡◌, ◌∙◌, ap, sym, subst, ℕ, List, length, map, All, arith, Err, ◌≤◌}
 use Rattle.std.proofs.lemmas.List.{length-map}
-use Rattle.strc_graph.specs.Graphs.{JoinsPorts}
-use Rattle.strc_graph.specs.NodeView.{graph_view, node_view, channel_view}
-use Rattle.strc_schedule.specs.declared.unit as units
-use Rattle.strc_schedule.specs.Buffers.{size_limit}
-use Rattle.strc_schedule.specs.Peaks.{HasNodes}
+use Rattle.strc_elab_graph.specs.Graphs.{JoinsPorts}
+use Rattle.strc_elab_graph.specs.NodeView.{graph_view, node_view, channel_view}
+use Rattle.strc_sched_orders.specs.declared.unit as units
+use Rattle.strc_sched_orders.specs.Buffers.{size_limit}
+use Rattle.strc_sched_orders.specs.Peaks.{HasNodes}
 use Rattle.strc_fuse.specs.Units.{round_units}
 use Rattle.strc_fiss.specs.Numbers.{share_at, base, each_part, origin_of}
 use Rattle.strc_fiss.specs.Splitting.{Wire, new_code, new_loop, split_graph}
@@ -19,7 +19,7 @@ use Rattle.strc_fiss.proofs.Lookup.{part_many}
 use Rattle.strc_fiss.proofs.Outcome.{graph_is, raised_same, passes_there}
 use Rattle.strc_fiss.proofs.Planned.{nodes_there}
 use Rattle.strc_fiss.proofs.fission.split_by.Goals as goal
-use Rattle.strc_base.proofs.Results.{passed_error}
+use Rattle.strc_lex_names.proofs.Results.{passed_error}
 
 pub graph_of-requires-clause-joined : goal.graph_of-requires-clause-joined
 graph_of-requires-clause-joined c =

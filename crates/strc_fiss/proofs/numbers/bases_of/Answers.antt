@@ -1,4 +1,4 @@
-use Rattle.strc_graph.specs.declared.graph.Fission.{Fission}
+use Rattle.strc_elab_graph.specs.declared.graph.Fission.{Fission}
 use Rattle.strc_fiss.proofs.Bases.{limit_passed}
 use Rattle.strc_fiss.proofs.numbers.bases_of.Goals as goal
 

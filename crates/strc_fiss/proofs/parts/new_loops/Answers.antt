@@ -1,6 +1,6 @@
 use Rattle.std.proofs.Common.{◌∙◌, ap, sym, ℕ, length, arith, Option, None, option_map}
 use Rattle.std.proofs.lemmas.Option.{get_or_from_slice_get}
-use Rattle.strc_graph.specs.declared.graph.Fission.{Fission}
+use Rattle.strc_elab_graph.specs.declared.graph.Fission.{Fission}
 use Rattle.strc_fiss.specs.Numbers.{share_at}
 use Rattle.strc_fiss.specs.Splitting.{new_loop, new_joiner}
 use Rattle.strc_fiss.proofs.Bases.{bases_many, share_read, outer_is}

@@ -1,8 +1,8 @@
 use Rattle.std.proofs.Common.{◌∙◌, ap, ap₂, sym, ◌<◌, length, map, arith, []}
 use Rattle.std.proofs.lemmas.List.{get_or-map}
-use Rattle.strc_graph.specs.Graphs.{Joiner}
-use Rattle.strc_graph.specs.NodeView.{node_view}
-use Rattle.strc_graph.specs.declared.graph.Fission.{Fission}
+use Rattle.strc_elab_graph.specs.Graphs.{Joiner}
+use Rattle.strc_elab_graph.specs.NodeView.{node_view}
+use Rattle.strc_elab_graph.specs.declared.graph.Fission.{Fission}
 use Rattle.strc_fiss.specs.Numbers.{share_at}
 use Rattle.strc_fiss.specs.Splitting.{new_code, part_code}
 use Rattle.strc_fiss.proofs.Bases.{share_read}

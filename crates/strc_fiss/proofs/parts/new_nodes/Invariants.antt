@@ -1,5 +1,5 @@
 use Rattle.std.proofs.Common.{◌≡◌, map}
-use Rattle.strc_graph.specs.NodeView.{node_view}
+use Rattle.strc_elab_graph.specs.NodeView.{node_view}
 use Rattle.strc_fiss.specs.Numbers.{share_at, each_part}
 use Rattle.strc_fiss.specs.Splitting.{new_code}
 use Rattle.strc_fiss.proofs.parts.new_nodes.Given as goal

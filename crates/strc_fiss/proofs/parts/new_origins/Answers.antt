@@ -1,5 +1,5 @@
 use Rattle.std.proofs.Common.{◌∙◌, ap, ℕ}
-use Rattle.strc_graph.specs.declared.graph.Fission.{Fission}
+use Rattle.strc_elab_graph.specs.declared.graph.Fission.{Fission}
 use Rattle.strc_fiss.specs.Numbers.{share_at, first_of, origin_of}
 use Rattle.strc_fiss.specs.declared.split.Origin.{Origin}
 use Rattle.strc_fiss.proofs.Bases.{share_read}

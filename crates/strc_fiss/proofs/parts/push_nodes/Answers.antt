@@ -1,6 +1,6 @@
 use Rattle.std.proofs.Common.{◌∙◌, ap, map, ◌≡◌, ℕ, suc, ◌++◌, arith}
 use Rattle.strc_fiss.specs.Numbers.{up_to, last_of}
-use Rattle.strc_graph.specs.NodeView.{node_view}
+use Rattle.strc_elab_graph.specs.NodeView.{node_view}
 use Rattle.strc_fiss.specs.Splitting.{part_code}
 use Rattle.strc_fiss.proofs.Sequences.{pushed}
 use Rattle.strc_fiss.proofs.parts.push_nodes.Goals as goal

@@ -1,5 +1,5 @@
 use Rattle.std.proofs.Common.{◌≡◌, ◌++◌, map}
-use Rattle.strc_graph.specs.NodeView.{node_view}
+use Rattle.strc_elab_graph.specs.NodeView.{node_view}
 use Rattle.strc_fiss.specs.Numbers.{up_to}
 use Rattle.strc_fiss.specs.Splitting.{part_code}
 use Rattle.strc_fiss.proofs.parts.push_nodes.Given as goal

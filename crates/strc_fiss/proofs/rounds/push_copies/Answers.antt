@@ -1,6 +1,6 @@
 use Rattle.std.proofs.Common.{◌∙◌, ap, ℕ, ◌+◌, suc}
 use Rattle.strc_fuse.specs.Units.{round_unit, round_units}
-use Rattle.strc_dataflow.specs.Pieces.{unit_of}
+use Rattle.strc_elab_dataflow.specs.Pieces.{unit_of}
 use Rattle.strc_fiss.proofs.Sequences.{pushed}
 use Rattle.strc_fiss.proofs.rounds.push_copies.Goals as goal
 

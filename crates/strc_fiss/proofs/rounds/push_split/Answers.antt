@@ -1,8 +1,8 @@
 use Rattle.std.proofs.Common.{◌≡◌, ◌∙◌, ap, ap₂, sym, ℕ, List, length, get_or, arith, ◌++◌, ◌∷◌, []}
 use Rattle.std.proofs.lemmas.List.{map-append}
 use Rattle.strc_fuse.specs.Units.{round_unit, round_units}
-use Rattle.strc_graph.specs.declared.graph.Fission.{Fission}
-use Rattle.strc_dataflow.specs.FusedUnits.{RoundUnit}
+use Rattle.strc_elab_graph.specs.declared.graph.Fission.{Fission}
+use Rattle.strc_elab_dataflow.specs.FusedUnits.{RoundUnit}
 use Rattle.strc_fiss.specs.Numbers.{share_at}
 use Rattle.strc_fiss.specs.Units.{part_units, split_unit}
 use Rattle.strc_fiss.proofs.Bases.{bases_many, base_read, share_read}

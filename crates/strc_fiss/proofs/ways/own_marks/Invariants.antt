@@ -1,5 +1,5 @@
 use Rattle.std.proofs.Common.{◌≡◌, ℕ, ◌<◌, ◌||◌, drop, map, length, get_or, false}
-use Rattle.strc_graph.specs.NodeView.{channel_view}
+use Rattle.strc_elab_graph.specs.NodeView.{channel_view}
 use Rattle.strc_fiss.specs.Ways.{feeds_itself}
 use Rattle.strc_fiss.proofs.ways.own_marks.Given as goal
 

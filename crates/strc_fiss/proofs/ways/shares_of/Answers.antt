@@ -1,6 +1,6 @@
 use Rattle.std.proofs.Common.{subst, sym, ap, length, arith, ◌+◌}
-use Rattle.strc_graph.specs.declared.graph.Channel as channel
-use Rattle.strc_graph.specs.declared.graph.Fission.{Fission}
+use Rattle.strc_elab_graph.specs.declared.graph.Channel as channel
+use Rattle.strc_elab_graph.specs.declared.graph.Fission.{Fission}
 use Rattle.std.proofs.Common.{List, All, ◌<◌, ◌≡◌, ℕ}
 use Rattle.strc_fiss.proofs.Shares.{AreShares, sources_there, next_share, all_shares}
 use Rattle.strc_fiss.proofs.ways.shares_of.Goals as goal

@@ -1,5 +1,5 @@
 use Rattle.std.proofs.Common.{◌∙◌, sym}
-use Rattle.strc_graph.specs.NodeView.{graph_view}
+use Rattle.strc_elab_graph.specs.NodeView.{graph_view}
 use Rattle.strc_fuse.specs.Units.{is_free}
 use Rattle.strc_fuse.proofs.Freely.{free_more, not_free}
 use Rattle.strc_fuse.proofs.freedom.are_free.Goals as goal

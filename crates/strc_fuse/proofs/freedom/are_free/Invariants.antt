@@ -1,6 +1,6 @@
 use Rattle.std.proofs.Common.{take}
-use Rattle.strc_graph.specs.NodeView.{graph_view}
-use Rattle.strc_dataflow.specs.FusedUnits.{AreFree}
+use Rattle.strc_elab_graph.specs.NodeView.{graph_view}
+use Rattle.strc_elab_dataflow.specs.FusedUnits.{AreFree}
 use Rattle.strc_fuse.specs.Units.{is_free}
 use Rattle.strc_fuse.proofs.freedom.are_free.Given as goal
 

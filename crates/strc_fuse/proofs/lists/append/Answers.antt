@@ -1,5 +1,5 @@
 use Rattle.std.proofs.Common.{◌∙◌, ap, sym, ◌++◌, append_assoc}
-use Rattle.strc_dataflow.specs.Fused.{repeated}
+use Rattle.strc_elab_dataflow.specs.Fused.{repeated}
 use Rattle.strc_fuse.proofs.Steps.{repeated_more}
 use Rattle.strc_fuse.proofs.lists.append.Goals as goal
 

@@ -1,5 +1,5 @@
 use Rattle.std.proofs.Common.{◌≡◌, ◌++◌}
-use Rattle.strc_dataflow.specs.Fused.{repeated}
+use Rattle.strc_elab_dataflow.specs.Fused.{repeated}
 use Rattle.strc_fuse.proofs.lists.append.Given as goal
 
 abbrev pub invariant-loop-turn : goal.invariant-loop-turn

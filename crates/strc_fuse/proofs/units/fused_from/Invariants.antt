@@ -1,5 +1,5 @@
 use Rattle.std.proofs.Common.{drop}
-use Rattle.strc_graph.specs.NodeView.{graph_view}
+use Rattle.strc_elab_graph.specs.NodeView.{graph_view}
 use Rattle.strc_fuse.specs.Steps.{IsMarked}
 use Rattle.strc_fuse.specs.Units.{is_free, round_unit, round_units}
 use Rattle.strc_fuse.proofs.Steps.{Continues}

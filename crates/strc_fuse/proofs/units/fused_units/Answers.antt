@@ -1,5 +1,5 @@
 use Rattle.std.proofs.Common.{subst, All, length}
-use Rattle.strc_schedule.specs.Peaks.{HasNodes}
+use Rattle.strc_sched_orders.specs.Peaks.{HasNodes}
 use Rattle.strc_fuse.proofs.GreedyUnits.{head_of, tail_of}
 use Rattle.strc_fuse.proofs.units.fused_units.Goals as goal
 

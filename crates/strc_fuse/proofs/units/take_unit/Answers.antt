@@ -1,7 +1,7 @@
 use Rattle.std.proofs.Common.{◌≡◌, ◌∙◌, ap, sym, subst, ◌++◌, [], ◌∷◌, MatchBool, List}
-use Rattle.strc_graph.specs.NodeView.{graph_view}
-use Rattle.strc_dataflow.specs.FusedUnits.{RoundUnit, AreFree, joined_unit}
-use Rattle.strc_schedule.specs.declared.unit as units
+use Rattle.strc_elab_graph.specs.NodeView.{graph_view}
+use Rattle.strc_elab_dataflow.specs.FusedUnits.{RoundUnit, AreFree, joined_unit}
+use Rattle.strc_sched_orders.specs.declared.unit as units
 use Rattle.strc_fuse.specs.Steps.{IsMarked, GoesOn}
 use Rattle.strc_fuse.specs.Units.{is_free, round_unit, round_units}
 use Rattle.strc_fuse.proofs.Marks.{on_ok, joined_marked, free_by_mark, goes_on_joined}

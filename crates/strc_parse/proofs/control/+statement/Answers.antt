@@ -1,7 +1,7 @@
 use Rattle.std.proofs.Common.{◌≡◌, ap, arith}
-use Rattle.strc_grammar.specs.Grammar.{kinds}
-use Rattle.strc_grammar.specs.Streams.{statement}
-use Rattle.strc_grammar.proofs.Rounds.{statement_at}
+use Rattle.strc_parse_grammar.specs.Grammar.{kinds}
+use Rattle.strc_parse_grammar.specs.Streams.{statement}
+use Rattle.strc_parse_grammar.proofs.Rounds.{statement_at}
 use Rattle.strc_parse.proofs.control.+statement.Goals as goal
 
 pub returns-then-depth-eq0-clause-gives : goal.returns-then-depth-eq0-clause-gives

@@ -2,16 +2,16 @@ use Rattle.std.proofs.Common.{◌≡◌, ◌+◌, ◌∙◌, ◌∷◌, [], ◌+
 use Rattle.std.proofs.Common.{rules, List, subst}
 use Rattle.std.proofs.lemmas.Result.{err_from_is_err_and}
 use Rattle.std.proofs.lemmas.List.{map_push}
-use Rattle.strc_syntax.specs.View.{declaration_view}
-use Rattle.strc_grammar.specs.Grammar.{declaration_spelled, height_limit, kinds}
-use Rattle.strc_grammar.specs.Reading.{one_more}
-use Rattle.strc_grammar.specs.Streams.{at_end, declaration, declarations}
-use Rattle.strc_grammar.proofs.Repeated.{Fails-then, end_reached, end_ahead}
+use Rattle.strc_parse_tree.specs.View.{declaration_view}
+use Rattle.strc_parse_grammar.specs.Grammar.{declaration_spelled, height_limit, kinds}
+use Rattle.strc_parse_grammar.specs.Reading.{one_more}
+use Rattle.strc_parse_grammar.specs.Streams.{at_end, declaration, declarations}
+use Rattle.strc_parse_grammar.proofs.Repeated.{Fails-then, end_reached, end_ahead}
 use Rattle.strc_lex.specs.declared.token.TokenKind.{TokenKind}
-use Rattle.strc_grammar.proofs.ProgramSoundness.{declaration_is_spelled, declaration_shorter}
+use Rattle.strc_parse_grammar.proofs.ProgramSoundness.{declaration_is_spelled, declaration_shorter}
 use Rattle.strc_parse.specs.Placed.{AreStreamsPlaced}
 use Rattle.strc_parse.proofs.Placed.{empty_kinds, streams_push}
-use Rattle.strc_grammar.proofs.Loops.{goes_on, goes_to, goes_wrong}
+use Rattle.strc_parse_grammar.proofs.Loops.{goes_on, goes_to, goes_wrong}
 use Rattle.strc_parse.proofs.declaration.declarations.Goals as goal
 
 pub loop-rest-init : goal.loop-rest-init

@@ -1,9 +1,9 @@
 use Rattle.std.proofs.Common.{length, map}
-use Rattle.strc_syntax.specs.View.{declaration_view}
-use Rattle.strc_grammar.specs.Grammar.{kinds, height_limit}
-use Rattle.strc_grammar.specs.Reading.{one_more}
-use Rattle.strc_grammar.specs.Streams.{declarations, at_end, declaration}
-use Rattle.strc_grammar.proofs.Loops.{Going}
+use Rattle.strc_parse_tree.specs.View.{declaration_view}
+use Rattle.strc_parse_grammar.specs.Grammar.{kinds, height_limit}
+use Rattle.strc_parse_grammar.specs.Reading.{one_more}
+use Rattle.strc_parse_grammar.specs.Streams.{declarations, at_end, declaration}
+use Rattle.strc_parse_grammar.proofs.Loops.{Going}
 use Rattle.strc_parse.specs.Placed.{AreStreamsPlaced}
 use Rattle.strc_parse.proofs.declaration.declarations.Given as goal
 

@@ -1,5 +1,5 @@
 use Rattle.std.proofs.Common.{◌∙◌, sym, rules}
-use Rattle.strc_grammar.specs.Streams.{rate_of}
+use Rattle.strc_parse_grammar.specs.Streams.{rate_of}
 use Rattle.strc_parse.proofs.RateViews.{has_rate_view}
 use Rattle.strc_parse.proofs.member.rate_of.Goals as goal
 

@@ -2,13 +2,14 @@ use Rattle.std.proofs.Common.{◌≡◌, ◌+◌, ◌<◌, ◌∙◌, ◌∷◌,
 use Rattle.std.proofs.Common.{sym, arith, rules}
 use Rattle.std.proofs.lemmas.Result.{err_from_is_err_and}
 use Rattle.std.proofs.lemmas.List.{map_push}
-use Rattle.strc_syntax.specs.declared.tree.RateTree.{RateTree}
-use Rattle.strc_syntax.specs.Tree as tree
-use Rattle.strc_syntax.specs.View.{expr_view, rate_view}
-use Rattle.strc_grammar.specs.Grammar.{kinds}
-use Rattle.strc_grammar.specs.Streams.{no_rate, rate_turn, rate_kind, rates}
-use Rattle.strc_grammar.proofs.Repeated.{no_rate_ends, no_rate_stays, rate_turn_at, rate_turn_fails}
-use Rattle.strc_grammar.proofs.Loops.{goes_on, goes_to, goes_wrong}
+use Rattle.strc_parse_tree.specs.declared.tree.RateTree.{RateTree}
+use Rattle.strc_parse_tree.specs.Tree as tree
+use Rattle.strc_parse_tree.specs.View.{expr_view, rate_view}
+use Rattle.strc_parse_grammar.specs.Grammar.{kinds}
+use Rattle.strc_parse_grammar.specs.Streams.{no_rate, rate_turn, rate_kind, rates}
+use Rattle.strc_parse_grammar.proofs.Repeated.{no_rate_ends, no_rate_stays, rate_turn_at}
+use Rattle.strc_parse_grammar.proofs.Repeated.{rate_turn_fails}
+use Rattle.strc_parse_grammar.proofs.Loops.{goes_on, goes_to, goes_wrong}
 use Rattle.strc_parse.proofs.Placed.{rates_grown}
 use Rattle.strc_parse.proofs.RateViews.{rate_shorter}
 use Rattle.strc_parse.proofs.member.rates.Goals as goal

@@ -1,8 +1,8 @@
 use Rattle.std.proofs.Common.{length, map}
-use Rattle.strc_syntax.specs.View.{rate_view}
-use Rattle.strc_grammar.specs.Grammar.{kinds}
-use Rattle.strc_grammar.specs.Streams.{rates, no_rate, rate_turn}
-use Rattle.strc_grammar.proofs.Loops.{Going}
+use Rattle.strc_parse_tree.specs.View.{rate_view}
+use Rattle.strc_parse_grammar.specs.Grammar.{kinds}
+use Rattle.strc_parse_grammar.specs.Streams.{rates, no_rate, rate_turn}
+use Rattle.strc_parse_grammar.proofs.Loops.{Going}
 use Rattle.strc_parse.specs.Placed.{AreRatesPlaced}
 use Rattle.strc_parse.proofs.member.rates.Given as goal
 

@@ -1,9 +1,10 @@
 use Rattle.std.proofs.Common.{arith}
 use Rattle.std.proofs.lemmas.List.{length-map}
 use Rattle.strc_lex.specs.declared.token.Token.{Token}
-use Rattle.strc_grammar.specs.Grammar.{kinds}
-use Rattle.strc_grammar.proofs.Exact.{read_parses, parses_read, refused_within, refused_has_none}
-use Rattle.strc_grammar.proofs.Exact.{nests_long, nests_has_none}
+use Rattle.strc_parse_grammar.specs.Grammar.{kinds}
+use Rattle.strc_parse_grammar.proofs.Exact.{read_parses, parses_read, refused_within}
+use Rattle.strc_parse_grammar.proofs.Exact.{refused_has_none}
+use Rattle.strc_parse_grammar.proofs.Exact.{nests_long, nests_has_none}
 use Rattle.strc_parse.proofs.program.parse.Goals as goal
 
 pub overflow_sub-token : goal.overflow_sub-token

@@ -1,8 +1,8 @@
 use Rattle.std.proofs.Common.{◌≡◌, ◌+◌, drop, refl, sym, subst, ap, ◌∙◌}
 use Rattle.std.proofs.lemmas.Result.{IfOk-weaker}
-use Rattle.strc_syntax.specs.View.{expr_view, listed_view}
-use Rattle.strc_syntax.specs.Tree as tree
-use Rattle.strc_syntax.proofs.Calls.{expr_view-Call, listed_view-drop}
+use Rattle.strc_parse_tree.specs.View.{expr_view, listed_view}
+use Rattle.strc_parse_tree.specs.Tree as tree
+use Rattle.strc_parse_tree.proofs.Calls.{expr_view-Call, listed_view-drop}
 use Rattle.strc_rate.specs.Walk.{ExprIsPassed}
 use Rattle.strc_rate.proofs.Counting.{first_arguments, first_runnable, runnable_step}
 use Rattle.strc_rate.proofs.Counting.{arguments_step}

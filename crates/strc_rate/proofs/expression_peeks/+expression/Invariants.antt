@@ -1,6 +1,6 @@
 use Rattle.std.proofs.Common.{◌≡◌, ◌+◌, ◌*◌, ◌++◌, max, drop, Some}
-use Rattle.strc_syntax.proofs.tree.Expr.TheLaws.{the_size}
-use Rattle.strc_syntax.specs.View.{listed_view}
+use Rattle.strc_parse_tree.proofs.tree.Expr.TheLaws.{the_size}
+use Rattle.strc_parse_tree.specs.View.{listed_view}
 use Rattle.strc_rate.specs.Counts.{no_items, sequence, arguments_counts}
 use Rattle.strc_rate.specs.Peeks.{arguments_sites}
 use Rattle.strc_rate.proofs.expression_peeks.+expression.Given as goal

@@ -4,12 +4,13 @@ use Rattle.std.proofs.lemmas.List.{append-nil}
 use Rattle.std.proofs.lemmas.Result.{IfOk-weaker}
 use Rattle.std.proofs.Math.ListN.{drop_of_length-le}
 use Rattle.std.specs.Option.{option_map}
-use Rattle.strc_syntax.specs.Tree as tree
-use Rattle.strc_syntax.specs.View.{expr_view, stmt_view, block_view}
-use Rattle.strc_syntax.proofs.Blocks.{stmt_view-Block, block_view-drop}
-use Rattle.strc_interval.specs.Intervals.{names_of, with_interval}
-use Rattle.strc_interval.specs.Seen.{loop_view}
-use Rattle.strc_interval.proofs.IntervalGrowth.{IsBaseOf, base_of_itself, base_of_after, drop_inner}
+use Rattle.strc_parse_tree.specs.Tree as tree
+use Rattle.strc_parse_tree.specs.View.{expr_view, stmt_view, block_view}
+use Rattle.strc_parse_tree.proofs.Blocks.{stmt_view-Block, block_view-drop}
+use Rattle.strc_rate_intervals.specs.Intervals.{names_of, with_interval}
+use Rattle.strc_rate_intervals.specs.Seen.{loop_view}
+use Rattle.strc_rate_intervals.proofs.IntervalGrowth.{IsBaseOf, base_of_itself, base_of_after}
+use Rattle.strc_rate_intervals.proofs.IntervalGrowth.{drop_inner}
 use Rattle.strc_rate.specs.Counts.{no_items, sequence, branch_counts, stmt_counts, stmts_counts}
 use Rattle.strc_rate.specs.Entries.{peeks_of_stmt}
 use Rattle.strc_rate.specs.Peeks.{sides_sites, stmt_sites, stmts_sites}

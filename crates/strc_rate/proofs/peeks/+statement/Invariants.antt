@@ -1,10 +1,10 @@
 use Rattle.std.proofs.Common.{◌≡◌, ◌+◌, ◌*◌, ◌++◌, max, Some, drop}
-use Rattle.strc_syntax.proofs.tree.Stmt.TheLaws.{the_size}
-use Rattle.strc_syntax.specs.View.{block_view}
+use Rattle.strc_parse_tree.proofs.tree.Stmt.TheLaws.{the_size}
+use Rattle.strc_parse_tree.specs.View.{block_view}
 use Rattle.strc_rate.specs.Counts.{no_items, sequence, stmts_counts}
-use Rattle.strc_interval.specs.Intervals.{names_of}
+use Rattle.strc_rate_intervals.specs.Intervals.{names_of}
 use Rattle.strc_rate.specs.Peeks.{stmts_sites}
-use Rattle.strc_interval.proofs.IntervalGrowth.{IsBaseOf}
+use Rattle.strc_rate_intervals.proofs.IntervalGrowth.{IsBaseOf}
 use Rattle.strc_rate.proofs.peeks.+statement.Given as goal
 
 abbrev pub decreases-check_peeks_in_statement : goal.decreases-check_peeks_in_statement

@@ -1,7 +1,7 @@
 use Rattle.std.proofs.Common.{◌+◌, drop, map, refl, sym, ap, ◌∙◌}
-use Rattle.strc_syntax.specs.View.{variable_view}
-use Rattle.strc_base.proofs.Lists.{map-drop}
-use Rattle.strc_interval.specs.Intervals.{with_unknown}
+use Rattle.strc_parse_tree.specs.View.{variable_view}
+use Rattle.strc_lex_names.proofs.Lists.{map-drop}
+use Rattle.strc_rate_intervals.specs.Intervals.{with_unknown}
 use Rattle.strc_rate.proofs.Counting.{first_variables, first_runnable, runnable_step}
 use Rattle.strc_rate.proofs.Counting.{variables_step}
 use Rattle.strc_rate.proofs.Sighting.{variables_seen}

@@ -1,8 +1,8 @@
 use Rattle.std.proofs.Common.{◌≡◌, ◌++◌, Some, drop, map}
-use Rattle.strc_syntax.specs.View.{variable_view}
+use Rattle.strc_parse_tree.specs.View.{variable_view}
 use Rattle.strc_rate.specs.Counts.{no_items, sequence, variables_counts}
 use Rattle.strc_rate.specs.Peeks.{variables_sites}
-use Rattle.strc_interval.specs.Intervals.{with_unknown}
+use Rattle.strc_rate_intervals.specs.Intervals.{with_unknown}
 use Rattle.strc_rate.proofs.peeks.check_peeks_in_variables.Given as goal
 
 abbrev pub invariant-loop-variable : goal.invariant-loop-variable

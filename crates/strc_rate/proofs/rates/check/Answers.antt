@@ -1,4 +1,4 @@
-use Rattle.strc_semantics.specs.Filters.{filter_of}
+use Rattle.strc_work_meaning.specs.Filters.{filter_of}
 use Rattle.strc_rate.specs.Kept.{KeepsRates}
 use Rattle.strc_rate.specs.Safe.{HasEntries, HasSafePeeks}
 use Rattle.strc_rate.proofs.FilterPeeks.{closed_peeks, each_entry}

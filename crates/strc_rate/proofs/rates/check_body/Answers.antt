@@ -1,6 +1,6 @@
 use Rattle.std.proofs.Common.{◌≡◌, sym, subst, not, ◌||◌, false, [], Some, Ok, rules}
-use Rattle.strc_semantics.specs.Filters.{filter_of, body_rates, body_block, push_rate, pop_rate}
-use Rattle.strc_semantics.specs.Filters.{item_count, window_size}
+use Rattle.strc_work_meaning.specs.Filters.{filter_of, body_rates, body_block, push_rate, pop_rate}
+use Rattle.strc_work_meaning.specs.Filters.{item_count, window_size}
 use Rattle.strc_rate.specs.Counts.{stmts_counts}
 use Rattle.strc_rate.specs.Peeks.{body_sights}
 use Rattle.strc_rate.specs.Rates.{are_within_limit, same_rate}

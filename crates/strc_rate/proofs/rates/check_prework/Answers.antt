@@ -1,6 +1,6 @@
 use Rattle.std.proofs.Common.{sym, ap, ◌∙◌}
 use Rattle.std.proofs.lemmas.Result.{err_from_is_err_and}
-use Rattle.strc_semantics.specs.Filters.{filter_of}
+use Rattle.strc_work_meaning.specs.Filters.{filter_of}
 use Rattle.strc_rate.specs.Rates.{some_prework}
 use Rattle.strc_rate.proofs.Checking.{prework_there, refusal_of_prework, refusal_same}
 use Rattle.strc_rate.proofs.rates.check_prework.Goals as goal

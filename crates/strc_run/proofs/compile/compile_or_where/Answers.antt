@@ -1,5 +1,5 @@
 use Rattle.std.proofs.Common.{refl, ℕ, List, Option, IfErr, subst}
-use Rattle.strc_refusal.specs.Placing.{unplaced}
+use Rattle.strc_run_refusal.specs.Placing.{unplaced}
 use Rattle.strc_run.specs.Choices.{choice_of}
 use Rattle.strc_run.specs.Located.{HasPlacedPlan, IsKnownOf, IsLocated}
 use Rattle.strc_run.proofs.Located.{in_program, passed_on}

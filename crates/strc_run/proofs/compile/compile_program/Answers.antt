@@ -1,17 +1,17 @@
 use Rattle.std.proofs.Common.{refl, List, map, sym, ap, ◌∙◌, subst, Err, arith}
 use Rattle.std.specs.Option.{option_map}
-use Rattle.strc_refusal.specs.Placing.{unplaced}
-use Rattle.strc_refusal.specs.declared.refusal.Refusal.TheVariants.{NoMemory}
-use Rattle.strc_refusal.specs.declared.refusal.Refusal.{Refusal}
+use Rattle.strc_run_refusal.specs.Placing.{unplaced}
+use Rattle.strc_run_refusal.specs.declared.refusal.Refusal.TheVariants.{NoMemory}
+use Rattle.strc_run_refusal.specs.declared.refusal.Refusal.{Refusal}
 use Rattle.std.specs.List.{AllByRecursion}
-use Rattle.strc_graph.specs.Graphs.{NodeCode}
-use Rattle.strc_stream.specs.View.{stream_view}
-use Rattle.strc_graph.specs.NodeView.{node_view, graph_view}
+use Rattle.strc_elab_graph.specs.Graphs.{NodeCode}
+use Rattle.strc_elab_stream.specs.View.{stream_view}
+use Rattle.strc_elab_graph.specs.NodeView.{node_view, graph_view}
 use Rattle.strc_run.specs.Located.{IsKnownOf}
 use Rattle.strc_run.specs.Rates.{rates_checked}
 use Rattle.strc_run.proofs.Located.{in_flattening, in_graph, passed_on, same_refusal}
-use Rattle.strc_refusal.specs.Reports.{refusal_of, balance_refusal_of, startup_refusal_of}
-use Rattle.strc_refusal.specs.Reports.{schedule_refusal_of}
+use Rattle.strc_run_refusal.specs.Reports.{refusal_of, balance_refusal_of, startup_refusal_of}
+use Rattle.strc_run_refusal.specs.Reports.{schedule_refusal_of}
 use Rattle.strc_run.specs.Verdicts.{IsRefusal}
 use Rattle.strc_run.proofs.Refusals.{elaboration_refused, graph_refused, rates_refused}
 use Rattle.strc_run.proofs.Refusals.{balance_refused, startup_refused, schedule_refused}

@@ -1,8 +1,8 @@
 use Rattle.std.proofs.Common.{subst, sym, ℕ, List, Option}
 use Rattle.strc_run.specs.Choices.{choice_of}
 use Rattle.strc_run.specs.Refuses.{IsTrueOf}
-use Rattle.strc_refusal.specs.Reports.{refusal_of}
-use Rattle.strc_refusal.specs.declared.refusal.Refusal.{Refusal}
+use Rattle.strc_run_refusal.specs.Reports.{refusal_of}
+use Rattle.strc_run_refusal.specs.declared.refusal.Refusal.{Refusal}
 use Rattle.strc_run.proofs.Refusals.{elaboration_refused}
 use Rattle.strc_run.proofs.compile.stream_of.Goals as goal
 

@@ -1,5 +1,5 @@
 use Rattle.std.proofs.Common.{◌≡◌, drop, map}
-use Rattle.strc_graph.specs.NodeView.{node_view}
+use Rattle.strc_elab_graph.specs.NodeView.{node_view}
 use Rattle.strc_run.specs.Rates.{rates_checked}
 use Rattle.strc_run.proofs.rates.check_rates.Given as goal
 

@@ -1,7 +1,7 @@
 use Rattle.std.proofs.Common.{◌∙◌, ap, map}
-use Rattle.strc_graph.specs.NodeView.{node_view}
-use Rattle.strc_admissible.specs.Laws.{counts_at}
-use Rattle.strc_admissible.specs.Planned.{items_read}
+use Rattle.strc_elab_graph.specs.NodeView.{node_view}
+use Rattle.strc_sched_laws.specs.Laws.{counts_at}
+use Rattle.strc_sched_laws.specs.Planned.{items_read}
 use Rattle.strc_sched.proofs.plain.input_needed.Goals as goal
 
 pub returns : goal.returns

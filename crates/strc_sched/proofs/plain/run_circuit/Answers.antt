@@ -1,13 +1,13 @@
 use Rattle.std.proofs.Common.{◌∙◌, ap, subst}
-use Rattle.strc_graph.specs.NodeView.{graph_view}
-use Rattle.strc_schedule.specs.Greedy.{firings_of}
-use Rattle.strc_admissible.specs.Circuits.{IsFirst}
-use Rattle.strc_admissible.specs.Laws.{round_order, startup_order}
-use Rattle.strc_admissible.specs.Machine.{whole_run}
-use Rattle.strc_runner.specs.Batches.{units_of}
-use Rattle.strc_rings.specs.Circuits.{circuit_view}
+use Rattle.strc_elab_graph.specs.NodeView.{graph_view}
+use Rattle.strc_sched_orders.specs.Greedy.{firings_of}
+use Rattle.strc_sched_laws.specs.Circuits.{IsFirst}
+use Rattle.strc_sched_laws.specs.Laws.{round_order, startup_order}
+use Rattle.strc_sched_laws.specs.Machine.{whole_run}
+use Rattle.strc_sched_machine.specs.Batches.{units_of}
+use Rattle.strc_sched_rings.specs.Circuits.{circuit_view}
 use Rattle.strc_sched.specs.Plain.{IsEnding, ReportsRun}
-use Rattle.strc_runner.specs.Running.{machine_view}
+use Rattle.strc_sched_machine.specs.Running.{machine_view}
 use Rattle.strc_sched.proofs.Endings.{outcome_so}
 use Rattle.strc_sched.proofs.plain.run_circuit.Goals as goal
 

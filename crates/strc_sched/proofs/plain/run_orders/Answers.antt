@@ -1,10 +1,10 @@
 use Rattle.std.proofs.Common.{[], refl}
-use Rattle.strc_schedule.specs.Greedy.{firings_of}
-use Rattle.strc_admissible.specs.Machine.{order_run, rounds_run}
-use Rattle.strc_runner.specs.Batches.{units_of}
-use Rattle.strc_rings.specs.Circuits.{circuit_view}
+use Rattle.strc_sched_orders.specs.Greedy.{firings_of}
+use Rattle.strc_sched_laws.specs.Machine.{order_run, rounds_run}
+use Rattle.strc_sched_machine.specs.Batches.{units_of}
+use Rattle.strc_sched_rings.specs.Circuits.{circuit_view}
 use Rattle.strc_sched.specs.Marks.{kept_tapes}
-use Rattle.strc_runner.specs.Running.{machine_view, words_of}
+use Rattle.strc_sched_machine.specs.Running.{machine_view, words_of}
 use Rattle.strc_sched.proofs.Endings.{ended_first, kept_before, more_than_none}
 use Rattle.strc_sched.proofs.plain.run_orders.Goals as goal
 

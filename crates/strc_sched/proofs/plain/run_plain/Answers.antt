@@ -1,11 +1,11 @@
 use Rattle.std.proofs.Common.{length, arith, ◌≤◌}
-use Rattle.strc_graph.specs.NodeView.{graph_view}
-use Rattle.strc_admissible.specs.Laws.{counts_at, startup_order, round_order}
-use Rattle.strc_admissible.specs.Machine.{whole_run}
-use Rattle.strc_admissible.specs.Planned.{items_read}
-use Rattle.strc_admissible.proofs.RingRuns.{ring_runs}
-use Rattle.strc_rings.specs.Circuits.{circuit_view}
-use Rattle.strc_runner.proofs.Startable.{all_start}
+use Rattle.strc_elab_graph.specs.NodeView.{graph_view}
+use Rattle.strc_sched_laws.specs.Laws.{counts_at, startup_order, round_order}
+use Rattle.strc_sched_laws.specs.Machine.{whole_run}
+use Rattle.strc_sched_laws.specs.Planned.{items_read}
+use Rattle.strc_sched_laws.proofs.RingRuns.{ring_runs}
+use Rattle.strc_sched_rings.specs.Circuits.{circuit_view}
+use Rattle.strc_sched_machine.proofs.Startable.{all_start}
 use Rattle.strc_sched.specs.Plain.{AnswersGraph, IsPlainRefusal, ReportsRun, need_of}
 use Rattle.strc_sched.proofs.Endings.{closed_known, outcome_so, memory_so}
 use Rattle.strc_sched.proofs.plain.run_plain.Goals as goal

@@ -1,14 +1,14 @@
 use Rattle.std.proofs.Common.{◌∙◌, ap, subst, sym, arith, map}
-use Rattle.strc_graph.specs.NodeView.{node_view}
-use Rattle.strc_schedule.specs.Greedy.{firings_of}
-use Rattle.strc_admissible.specs.Machine.{order_run, rounds_run}
-use Rattle.strc_runner.specs.Batches.{units_of}
-use Rattle.strc_rings.specs.Circuits.{circuit_view}
+use Rattle.strc_elab_graph.specs.NodeView.{node_view}
+use Rattle.strc_sched_orders.specs.Greedy.{firings_of}
+use Rattle.strc_sched_laws.specs.Machine.{order_run, rounds_run}
+use Rattle.strc_sched_machine.specs.Batches.{units_of}
+use Rattle.strc_sched_rings.specs.Circuits.{circuit_view}
 use Rattle.strc_sched.specs.Marks.{kept_tapes}
-use Rattle.strc_runner.specs.Running.{machine_view, words_of}
+use Rattle.strc_sched_machine.specs.Running.{machine_view, words_of}
 use Rattle.strc_sched.specs.Plain.{IsEnding}
-use Rattle.strc_refusal.specs.declared.outcome.Outcome.TheVariants as outcome
-use Rattle.strc_runner.proofs.Done.{more_refl}
+use Rattle.strc_sched_outcome.specs.declared.outcome.Outcome.TheVariants as outcome
+use Rattle.strc_sched_machine.proofs.Done.{more_refl}
 use Rattle.strc_sched.proofs.TapeLists.{words_each}
 use Rattle.strc_sched.proofs.Endings.{ended_in, kept_before, rounds_done, rounds_next, rounds_stop}
 use Rattle.strc_sched.proofs.plain.run_rounds.Goals as goal

@@ -1,11 +1,11 @@
 use Rattle.std.proofs.Common.{◌≡◌, ◌-◌, map}
-use Rattle.strc_graph.specs.NodeView.{node_view}
-use Rattle.strc_schedule.specs.Greedy.{firings_of}
-use Rattle.strc_admissible.specs.Machine.{rounds_run}
-use Rattle.strc_runner.specs.Batches.{units_of}
-use Rattle.strc_rings.specs.Circuits.{circuit_view}
+use Rattle.strc_elab_graph.specs.NodeView.{node_view}
+use Rattle.strc_sched_orders.specs.Greedy.{firings_of}
+use Rattle.strc_sched_laws.specs.Machine.{rounds_run}
+use Rattle.strc_sched_machine.specs.Batches.{units_of}
+use Rattle.strc_sched_rings.specs.Circuits.{circuit_view}
 use Rattle.strc_sched.specs.Marks.{IsMarks}
-use Rattle.strc_runner.specs.Running.{IsMachine, machine_view}
+use Rattle.strc_sched_machine.specs.Running.{IsMachine, machine_view}
 use Rattle.strc_sched.proofs.plain.run_rounds.Given as goal
 
 abbrev pub invariant-loop-round : goal.invariant-loop-round

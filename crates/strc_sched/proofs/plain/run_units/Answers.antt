@@ -1,8 +1,8 @@
 use Rattle.std.proofs.Common.{subst, ℕ, List, IfOk}
-use Rattle.strc_admissible.specs.Machine.{rounds_run}
-use Rattle.strc_rings.specs.Circuits.{circuit_view}
-use Rattle.strc_refusal.specs.declared.outcome.Outcome.{Outcome}
-use Rattle.strc_runner.specs.Running.{machine_view}
+use Rattle.strc_sched_laws.specs.Machine.{rounds_run}
+use Rattle.strc_sched_rings.specs.Circuits.{circuit_view}
+use Rattle.strc_sched_outcome.specs.declared.outcome.Outcome.{Outcome}
+use Rattle.strc_sched_machine.specs.Running.{machine_view}
 use Rattle.strc_sched.specs.Plain.{IsEnding}
 use Rattle.strc_sched.proofs.plain.run_units.Goals as goal
 

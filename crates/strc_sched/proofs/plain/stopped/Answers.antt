@@ -1,8 +1,8 @@
 use Rattle.std.proofs.Common.{refl, sym, subst}
-use Rattle.strc_refusal.specs.declared.outcome.Outcome.TheVariants as outcome
+use Rattle.strc_sched_outcome.specs.declared.outcome.Outcome.TheVariants as outcome
 use Rattle.strc_sched.specs.Marks.{kept_tapes}
 use Rattle.strc_sched.specs.Plain.{IsStopped}
-use Rattle.strc_runner.specs.Running.{words_of}
+use Rattle.strc_sched_machine.specs.Running.{words_of}
 use Rattle.strc_sched.proofs.plain.stopped.Goals as goal
 
 pub returns-in-Fault-clause-outcome : goal.returns-in-Fault-clause-outcome

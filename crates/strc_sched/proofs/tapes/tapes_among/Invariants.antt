@@ -1,6 +1,6 @@
 use Rattle.std.proofs.Common.{◌≡◌, ◌++◌, map, drop}
-use Rattle.strc_graph.specs.NodeView.{node_view}
-use Rattle.strc_graph.specs.Tapes.{tape_nodes_from}
+use Rattle.strc_elab_graph.specs.NodeView.{node_view}
+use Rattle.strc_elab_graph.specs.Tapes.{tape_nodes_from}
 use Rattle.strc_sched.proofs.tapes.tapes_among.Given as goal
 
 -- the nodes so far and those among the nodes left are all

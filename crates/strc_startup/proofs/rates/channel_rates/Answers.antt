@@ -1,6 +1,6 @@
 use Rattle.std.proofs.Common.{◌∙◌, All, length, map, ap, sym, subst}
 use Rattle.std.proofs.lemmas.List.{length-map}
-use Rattle.strc_graph.specs.NodeView.{graph_view, node_view, channel_view}
+use Rattle.strc_elab_graph.specs.NodeView.{graph_view, node_view, channel_view}
 use Rattle.strc_startup.specs.Rates.{rates_of_channel}
 use Rattle.strc_startup.specs.Waiting.{HasEnds, Pushes}
 use Rattle.strc_startup.proofs.Bounds.{graph_ends, graph_pushes}

@@ -1,7 +1,7 @@
 use Rattle.std.proofs.Common.{◌≡◌, ◌<◌, length, map, ap, sym, subst, ◌∙◌, arith}
 use Rattle.std.proofs.lemmas.List.{get_or-map, length-map}
-use Rattle.strc_graph.specs.NodeView.{node_view, channel_view}
-use Rattle.strc_graph.specs.Graphs.{JoinsPorts}
+use Rattle.strc_elab_graph.specs.NodeView.{node_view, channel_view}
+use Rattle.strc_elab_graph.specs.Graphs.{JoinsPorts}
 use Rattle.strc_startup.proofs.rates.rates_of.Goals as goal
 
 pub rates_of_channel-requires : goal.rates_of_channel-requires

@@ -1,5 +1,5 @@
 use Rattle.std.proofs.Common.{◌≡◌, take, map, All}
-use Rattle.strc_graph.specs.NodeView.{node_view, channel_view}
+use Rattle.strc_elab_graph.specs.NodeView.{node_view, channel_view}
 use Rattle.strc_startup.specs.Rates as spec
 use Rattle.strc_startup.specs.Waiting.{IsBounded}
 use Rattle.strc_startup.proofs.rates.rates_of.Given as goal

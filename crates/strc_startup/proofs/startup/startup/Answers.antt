@@ -1,6 +1,6 @@
 use Rattle.std.proofs.Common.{◌≡◌, ◌∙◌, All, length, map, ap, sym, subst}
 use Rattle.std.proofs.lemmas.List.{length-map}
-use Rattle.strc_graph.specs.NodeView.{node_view}
+use Rattle.strc_elab_graph.specs.NodeView.{node_view}
 use Rattle.strc_balance.specs.Balance.{IsWithinLimit}
 use Rattle.strc_startup.specs.Rates.{first_count}
 use Rattle.strc_startup.specs.Waiting.{HasEnds, Pushes}

@@ -1,14 +1,14 @@
 use Rattle.std.proofs.Common.{◌≡◌, ◌≤◌, ◌++◌, length, take, drop, sym, ap, ◌∙◌, subst, arith, rules}
 use Rattle.strc_work.specs.Kept.{Kept, Pushed}
-use Rattle.strc_semantics.specs.Filters.{filter_of}
-use Rattle.strc_code.specs.Code.{code_of}
-use Rattle.strc_code.specs.Nodes.{nodes_print}
-use Rattle.strc_instructions.specs.Running.{machine_of, port_within, fresh_io, Tells}
-use Rattle.strc_code.specs.Flat.{node_done}
+use Rattle.strc_work_meaning.specs.Filters.{filter_of}
+use Rattle.strc_work_code.specs.Code.{code_of}
+use Rattle.strc_work_code.specs.Nodes.{nodes_print}
+use Rattle.strc_work_instructions.specs.Running.{machine_of, port_within, fresh_io, Tells}
+use Rattle.strc_work_code.specs.Flat.{node_done}
 use Rattle.strc_work.proofs.Runs.{wants_as}
-use Rattle.strc_code.specs.Lowering.{slot_count}
-use Rattle.strc_code.specs.Links.{helper_names, IsLinked}
-use Rattle.strc_semantics.specs.Firing.{fired, setting_at}
+use Rattle.strc_work_code.specs.Lowering.{slot_count}
+use Rattle.strc_work_code.specs.Links.{helper_names, IsLinked}
+use Rattle.strc_work_meaning.specs.Firing.{fired, setting_at}
 use Rattle.strc_work.specs.Answers.{Fires}
 use Rattle.strc_work.proofs.Printing.{body_wants}
 use Rattle.strc_work.specs.Calls.{setting_in}

@@ -1,13 +1,13 @@
 use Rattle.std.proofs.Common.{◌≡◌, ◌≤◌, ◌++◌, [], Ok, Err, length, take, drop, replicate, pos, refl}
 use Rattle.std.proofs.Common.{sym, ap, ◌∙◌, subst, arith, rules}
-use Rattle.strc_semantics.specs.Filters.{filter_of}
-use Rattle.strc_code.specs.Code.{code_of}
-use Rattle.strc_instructions.specs.Running.{machine_of, port_within, fresh_io, Tells}
-use Rattle.strc_code.specs.Flat.{node_done}
-use Rattle.strc_code.specs.declared.limits.FiringLimits.{FiringLimits}
-use Rattle.strc_code.specs.Lowering.{slot_count}
-use Rattle.strc_code.specs.Links.{helper_names, IsLinked}
-use Rattle.strc_semantics.specs.Firing.{started, setting_at}
+use Rattle.strc_work_meaning.specs.Filters.{filter_of}
+use Rattle.strc_work_code.specs.Code.{code_of}
+use Rattle.strc_work_instructions.specs.Running.{machine_of, port_within, fresh_io, Tells}
+use Rattle.strc_work_code.specs.Flat.{node_done}
+use Rattle.strc_work_code.specs.declared.limits.FiringLimits.{FiringLimits}
+use Rattle.strc_work_code.specs.Lowering.{slot_count}
+use Rattle.strc_work_code.specs.Links.{helper_names, IsLinked}
+use Rattle.strc_work_meaning.specs.Firing.{started, setting_at}
 use Rattle.strc_work.specs.Answers.{Starts}
 use Rattle.strc_work.specs.Calls.{setting_in}
 use Rattle.strc_work.proofs.TopCalls.{top_setting, callable_runs, callable_saves}

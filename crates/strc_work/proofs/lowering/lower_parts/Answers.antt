@@ -1,5 +1,5 @@
-use Rattle.strc_semantics.specs.Filters.{filter_of, filter_parts}
-use Rattle.strc_check.proofs.Resolving.{resolved_closed}
+use Rattle.strc_work_meaning.specs.Filters.{filter_of, filter_parts}
+use Rattle.strc_work_rules.proofs.Resolving.{resolved_closed}
 use Rattle.strc_work.proofs.lowering.lower_parts.Goals as goal
 
 pub emit_filter-requires : goal.emit_filter-requires

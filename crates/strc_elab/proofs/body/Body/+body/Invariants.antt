@@ -1,8 +1,8 @@
 use Rattle.std.proofs.Common.{◌≡◌, ◌+◌, ◌*◌, max, ℕ, suc, drop}
 use Rattle.std.specs.Option.{option_map}
-use Rattle.strc_syntax.proofs.tree.Stmt.TheLaws.{the_size}
-use Rattle.strc_syntax.specs.View.{expr_view, stmt_view, block_view}
-use Rattle.strc_semantics.specs.Firing.{turn_limit}
+use Rattle.strc_parse_tree.proofs.tree.Stmt.TheLaws.{the_size}
+use Rattle.strc_parse_tree.specs.View.{expr_view, stmt_view, block_view}
+use Rattle.strc_work_meaning.specs.Firing.{turn_limit}
 use Rattle.strc_elab.specs.Elaboration as spec
 use Rattle.strc_elab.specs.Answering.{progress_of}
 use Rattle.strc_elab.specs.Loops.{while_looped, for_looped, names_after_block}

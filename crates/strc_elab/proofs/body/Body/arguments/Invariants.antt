@@ -1,7 +1,7 @@
 use Rattle.std.proofs.Common.{◌≡◌, drop, map, []}
-use Rattle.strc_syntax.specs.View.{expr_view}
+use Rattle.strc_parse_tree.specs.View.{expr_view}
 use Rattle.strc_elab.specs.Elaboration as spec
-use Rattle.strc_statements.specs.Saying.{store_of}
+use Rattle.strc_elab_statements.specs.Saying.{store_of}
 use Rattle.strc_elab.specs.Tasks.{setting_of}
 use Rattle.strc_elab.proofs.body.Body.arguments.Given as goal
 

@@ -1,8 +1,8 @@
 use Rattle.std.proofs.Common.{◌≡◌, [], map, length, false, is_some, Some, Ok, sym, ap, ◌∙◌, subst}
 use Rattle.std.proofs.lemmas.List.{length-map}
-use Rattle.strc_syntax.specs.View.{declaration_view, expr_view}
-use Rattle.strc_statements.specs.Saying.{store_of}
-use Rattle.strc_statements.specs.Texts.{parameters_of, is_doubled, text_of}
+use Rattle.strc_parse_tree.specs.View.{declaration_view, expr_view}
+use Rattle.strc_elab_statements.specs.Saying.{store_of}
+use Rattle.strc_elab_statements.specs.Texts.{parameters_of, is_doubled, text_of}
 use Rattle.strc_elab.specs.Answering.{progress_of, Runs}
 use Rattle.strc_elab.specs.Elaboration as spec
 use Rattle.strc_elab.specs.Places.{found_trace}

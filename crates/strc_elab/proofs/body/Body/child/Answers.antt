@@ -1,9 +1,9 @@
 use Rattle.std.proofs.Common.{◌∙◌, List, sym, ap, subst, None}
-use Rattle.strc_syntax.specs.declared.tree.Member.{Member}
-use Rattle.strc_syntax.specs.declared.tree.Stmt.{Stmt}
+use Rattle.strc_parse_tree.specs.declared.tree.Member.{Member}
+use Rattle.strc_parse_tree.specs.declared.tree.Stmt.{Stmt}
 use Rattle.std.specs.Prelude.{Ok}
-use Rattle.strc_syntax.specs.View.{child_view, block_view}
-use Rattle.strc_semantics.specs.Filters.{filter_parts}
+use Rattle.strc_parse_tree.specs.View.{child_view, block_view}
+use Rattle.strc_work_meaning.specs.Filters.{filter_parts}
 use Rattle.strc_elab.specs.Elaboration as spec
 use Rattle.strc_elab.specs.Answering.{progress_of, Runs}
 use Rattle.strc_elab.specs.Elaboration.{unnamed_found}
@@ -11,7 +11,7 @@ use Rattle.strc_elab.specs.Places.{child_trace, found_trace}
 use Rattle.strc_elab.specs.declared.trace.Trace.{Trace}
 use Rattle.strc_elab.specs.Sources.{FilterSource, CompositeSource}
 use Rattle.strc_elab.specs.Tasks.{setting_of, tracing_of}
-use Rattle.strc_statements.specs.Texts.{FilterText, CompositeText}
+use Rattle.strc_elab_statements.specs.Texts.{FilterText, CompositeText}
 use Rattle.strc_elab.proofs.ChildPlaces.{filter_child_trace, composite_child_trace}
 use Rattle.strc_elab.proofs.Children.{filter_child, composite_child}
 use Rattle.strc_elab.proofs.Places.{traces_same}

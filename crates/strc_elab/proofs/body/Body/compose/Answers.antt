@@ -1,5 +1,5 @@
 use Rattle.std.proofs.Common.{sym, subst}
-use Rattle.strc_syntax.specs.View.{composition_view}
+use Rattle.strc_parse_tree.specs.View.{composition_view}
 use Rattle.strc_elab.specs.Answering.{progress_of, Runs, Traces}
 use Rattle.strc_elab.specs.Elaboration.{composed}
 use Rattle.strc_elab.specs.Places.{composed_trace}

@@ -1,10 +1,10 @@
 use Rattle.std.proofs.Common.{rules, ◌≡◌, ◌-◌, Option, Result, Ok, Err, sym, ap, ◌∙◌, subst}
 use Rattle.std.specs.Option.{option_or}
-use Rattle.strc_base.specs.Results.{result_and_then}
-use Rattle.strc_base.specs.declared.place.Span.{Span}
-use Rattle.strc_statements.specs.Answers.{IsRefusal}
-use Rattle.strc_statements.specs.declared.error.ElabError.{ElabError}
-use Rattle.strc_statements.proofs.Refusals.{first_refused}
+use Rattle.strc_lex_names.specs.Results.{result_and_then}
+use Rattle.strc_lex_names.specs.declared.place.Span.{Span}
+use Rattle.strc_elab_statements.specs.Answers.{IsRefusal}
+use Rattle.strc_elab_statements.specs.declared.error.ElabError.{ElabError}
+use Rattle.strc_elab_statements.proofs.Refusals.{first_refused}
 use Rattle.strc_elab.specs.Answering.{progress_of, Runs, Traces, IsPlaced, IsPlacedVerdict}
 use Rattle.strc_elab.specs.Answering.{IsPlaceOf, IsWithin}
 use Rattle.strc_elab.specs.Elaboration as spec
@@ -12,7 +12,7 @@ use Rattle.strc_elab.specs.Places.{place_after, child_traced, with_child, stream
 use Rattle.strc_elab.specs.Sources.{text_source}
 use Rattle.strc_elab.specs.Tasks.{IsReady, setting_of, program_of, place_of, text_view}
 use Rattle.strc_elab.specs.Tasks.{elaborated_view}
-use Rattle.strc_elab.specs.declared.placed.PlacedError.{PlacedError}
+use Rattle.strc_elab.specs.declared.placed_error.PlacedError.{PlacedError}
 use Rattle.strc_elab.specs.declared.task.Task.{Task}
 use Rattle.strc_elab.specs.declared.trace.Trace.{Trace}
 use Rattle.strc_elab.proofs.Levels.{IsJudged, judged_at}

@@ -1,7 +1,7 @@
 use Rattle.std.proofs.Common.{[], ap, ◌∙◌, subst}
-use Rattle.strc_syntax.specs.View.{block_view}
+use Rattle.strc_parse_tree.specs.View.{block_view}
 use Rattle.strc_elab.specs.Elaboration.{stmts_run, initial_progress}
-use Rattle.strc_statements.specs.Answers.{IsRefusal}
+use Rattle.strc_elab_statements.specs.Answers.{IsRefusal}
 use Rattle.strc_elab.specs.Answering.{progress_of, IsPlaceOf}
 use Rattle.strc_elab.specs.Places.{block_trace}
 use Rattle.strc_elab.specs.Tasks.{setting_of, tracing_of, totals_of}

@@ -1,8 +1,8 @@
 use Rattle.std.proofs.Common.{rules, ◌≡◌, ◌∙◌, ◌++◌, ◌∷◌, [], Ok}
-use Rattle.strc_semantics.specs.declared.types.ValueType.TheVariants as kind
-use Rattle.strc_syntax.specs.View.{expr_view}
-use Rattle.strc_statements.specs.Saying.{store_of}
-use Rattle.strc_statements.specs.Statements.{eval_checked}
+use Rattle.strc_work_meaning.specs.declared.types.ValueType.TheVariants as kind
+use Rattle.strc_parse_tree.specs.View.{expr_view}
+use Rattle.strc_elab_statements.specs.Saying.{store_of}
+use Rattle.strc_elab_statements.specs.Statements.{eval_checked}
 use Rattle.strc_elab.specs.Tasks.{setting_of, place_of}
 use Rattle.strc_elab.proofs.Values.{one_value_more}
 use Rattle.strc_elab.proofs.body.Body.values.Goals as goal

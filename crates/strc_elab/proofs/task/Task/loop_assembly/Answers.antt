@@ -1,16 +1,16 @@
 use Rattle.std.proofs.Common.{◌≡◌, ◌∙◌, sym, ap, subst, true, is_some, option_map, Ok, nat_lt}
 use Rattle.std.proofs.Common.{slice_index, ℕ, List}
 use Rattle.std.proofs.lemmas.Result.{err_from_is_err_and}
-use Rattle.strc_graph.specs.NodeView.{splitter_view}
-use Rattle.strc_stream.specs.Types.{side}
-use Rattle.strc_statements.specs.Answers.{IsRefusal}
+use Rattle.strc_elab_graph.specs.NodeView.{splitter_view}
+use Rattle.strc_elab_stream.specs.Types.{side}
+use Rattle.strc_elab_statements.specs.Answers.{IsRefusal}
 use Rattle.strc_elab.specs.Answering.{progress_of, join_view, part_view}
-use Rattle.strc_statements.specs.Splits.{split_view}
-use Rattle.strc_statements.specs.Weights.{weighted, loop_weights, loop_splitter, input_written}
-use Rattle.strc_statements.specs.Weights.{output_written}
+use Rattle.strc_elab_statements.specs.Splits.{split_view}
+use Rattle.strc_elab_statements.specs.Weights.{weighted, loop_weights, loop_splitter, input_written}
+use Rattle.strc_elab_statements.specs.Weights.{output_written}
 use Rattle.strc_elab.proofs.Composites.{loop_starts, joiner_refused, splitter_refused}
 use Rattle.strc_elab.proofs.Composites.{types_refused}
-use Rattle.strc_statements.proofs.Refusals.{refused_same}
+use Rattle.strc_elab_statements.proofs.Refusals.{refused_same}
 use Rattle.strc_elab.specs.Places.{loop_place}
 use Rattle.strc_elab.proofs.AssemblyPlaces.{first_step, second_step, loop_place-parts}
 use Rattle.strc_elab.proofs.task.Task.loop_assembly.Goals as goal

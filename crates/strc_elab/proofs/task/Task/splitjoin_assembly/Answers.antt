@@ -1,12 +1,12 @@
 use Rattle.std.proofs.Common.{◌≡◌, length, option_map, Ok, sym, ap, ◌∙◌, subst, rules}
 use Rattle.std.proofs.lemmas.Result.{err_from_is_err_and}
-use Rattle.strc_graph.specs.NodeView.{splitter_view}
-use Rattle.strc_statements.specs.Answers.{IsRefusal}
+use Rattle.strc_elab_graph.specs.NodeView.{splitter_view}
+use Rattle.strc_elab_statements.specs.Answers.{IsRefusal}
 use Rattle.strc_elab.specs.Answering.{progress_of, join_view}
-use Rattle.strc_statements.specs.Splits.{split_view}
+use Rattle.strc_elab_statements.specs.Splits.{split_view}
 use Rattle.strc_elab.specs.Elaboration as spec
-use Rattle.strc_statements.specs.Sides.{inputs_in, outputs_in, any_side}
-use Rattle.strc_statements.specs.Weights.{split_dealt, join_dealt}
+use Rattle.strc_elab_statements.specs.Sides.{inputs_in, outputs_in, any_side}
+use Rattle.strc_elab_statements.specs.Weights.{split_dealt, join_dealt}
 use Rattle.strc_elab.proofs.Composites.{splitjoin_done, joins_refused}
 use Rattle.strc_elab.specs.Places.{splitjoin_place}
 use Rattle.strc_elab.proofs.AssemblyPlaces.{second_step, splitjoin_place-parts}

@@ -1,8 +1,8 @@
 use Rattle.std.proofs.Common.{◌≡◌, sym, subst, ℕ, All, length, map}
 use Rattle.std.specs.Prelude.{OnOk}
 use Rattle.std.proofs.lemmas.List.{length-map}
-use Rattle.strc_graph.specs.NodeView.{graph_view, node_view, channel_view}
-use Rattle.strc_schedule.specs.Peaks.{HasNodes}
+use Rattle.strc_elab_graph.specs.NodeView.{graph_view, node_view, channel_view}
+use Rattle.strc_sched_orders.specs.Peaks.{HasNodes}
 use Rattle.strc_fuse.specs.Fusion.{IsFusion}
 use Rattle.strc_fiss.specs.Splits.{SplitParts}
 use Rattle.strc_fiss.proofs.Fusing.{still_fusible, is_fusion}

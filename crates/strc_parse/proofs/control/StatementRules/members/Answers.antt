@@ -1,16 +1,16 @@
 use Rattle.std.proofs.Common.{◌+◌, ◌-◌, ◌∙◌, List, length, map, subst, sym, refl, arith}
 use Rattle.std.proofs.lemmas.Result.{err_from_is_err_and}
-use Rattle.strc_syntax.specs.View.{member_view}
-use Rattle.strc_grammar.specs.Grammar.{kinds}
-use Rattle.strc_grammar.specs.Reading.{brace, one_taller}
-use Rattle.strc_grammar.specs.Streams.{member, members, statement}
-use Rattle.strc_grammar.proofs.Repeated.{brace_closes, brace_stays}
-use Rattle.strc_grammar.proofs.MemberSoundness.{member_shorter}
-use Rattle.strc_grammar.proofs.TreeSoundness.{statement_soundness}
-use Rattle.strc_grammar.proofs.Loops.{goes_on, goes_to, goes_wrong}
+use Rattle.strc_parse_tree.specs.View.{member_view}
+use Rattle.strc_parse_grammar.specs.Grammar.{kinds}
+use Rattle.strc_parse_grammar.specs.Reading.{brace, one_taller}
+use Rattle.strc_parse_grammar.specs.Streams.{member, members, statement}
+use Rattle.strc_parse_grammar.proofs.Repeated.{brace_closes, brace_stays}
+use Rattle.strc_parse_grammar.proofs.MemberSoundness.{member_shorter}
+use Rattle.strc_parse_grammar.proofs.TreeSoundness.{statement_soundness}
+use Rattle.strc_parse_grammar.proofs.Loops.{goes_on, goes_to, goes_wrong}
 use Rattle.strc_lex.specs.declared.token.TokenKind.{TokenKind}
 use Rattle.strc_lex.specs.declared.token.Punctuation.TheVariants as punctuation
-use Rattle.strc_grammar.proofs.Soundness.{punctuation_is}
+use Rattle.strc_parse_grammar.proofs.Soundness.{punctuation_is}
 use Rattle.strc_parse.specs.Placed.{ArePartsPlaced}
 use Rattle.strc_parse.proofs.Placed.{parts_grown}
 use Rattle.strc_parse.proofs.Grown.{grown_read, grown_turn, grown_fails}

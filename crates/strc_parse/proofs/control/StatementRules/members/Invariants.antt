@@ -1,9 +1,9 @@
 use Rattle.std.proofs.Common.{◌-◌, length, map}
-use Rattle.strc_syntax.specs.View.{member_view}
-use Rattle.strc_grammar.specs.Grammar.{kinds}
-use Rattle.strc_grammar.specs.Reading.{brace, one_taller}
-use Rattle.strc_grammar.specs.Streams.{members, member, statement}
-use Rattle.strc_grammar.proofs.Loops.{Going}
+use Rattle.strc_parse_tree.specs.View.{member_view}
+use Rattle.strc_parse_grammar.specs.Grammar.{kinds}
+use Rattle.strc_parse_grammar.specs.Reading.{brace, one_taller}
+use Rattle.strc_parse_grammar.specs.Streams.{members, member, statement}
+use Rattle.strc_parse_grammar.proofs.Loops.{Going}
 use Rattle.strc_parse.specs.Placed.{ArePartsPlaced}
 use Rattle.strc_parse.proofs.control.StatementRules.members.Given as goal
 

@@ -1,14 +1,14 @@
 use Rattle.std.proofs.Common.{◌-◌, ◌∙◌, List, length, map, subst, sym}
 use Rattle.std.proofs.lemmas.Result.{err_from_is_err_and}
-use Rattle.strc_syntax.specs.View.{stmt_view}
-use Rattle.strc_grammar.specs.Grammar.{kinds}
-use Rattle.strc_grammar.specs.Reading.{brace, one_taller}
-use Rattle.strc_grammar.specs.Streams.{statement}
-use Rattle.strc_grammar.proofs.Repeated.{brace_closes, brace_stays, repeated_on}
-use Rattle.strc_grammar.proofs.Repeated.{repeated_ends, repeated_fails, repeated_over}
+use Rattle.strc_parse_tree.specs.View.{stmt_view}
+use Rattle.strc_parse_grammar.specs.Grammar.{kinds}
+use Rattle.strc_parse_grammar.specs.Reading.{brace, one_taller}
+use Rattle.strc_parse_grammar.specs.Streams.{statement}
+use Rattle.strc_parse_grammar.proofs.Repeated.{brace_closes, brace_stays, repeated_on}
+use Rattle.strc_parse_grammar.proofs.Repeated.{repeated_ends, repeated_fails, repeated_over}
 use Rattle.strc_lex.specs.declared.token.TokenKind.{TokenKind}
 use Rattle.strc_lex.specs.declared.token.Punctuation.TheVariants as punctuation
-use Rattle.strc_grammar.proofs.Soundness.{punctuation_is}
+use Rattle.strc_parse_grammar.proofs.Soundness.{punctuation_is}
 use Rattle.strc_parse.specs.Placed.{IsBlockPlaced}
 use Rattle.strc_parse.proofs.Placed.{block_grown}
 use Rattle.strc_parse.proofs.Grown.{grown_turn, grown_fails}

@@ -1,8 +1,8 @@
 use Rattle.std.proofs.Common.{◌≡◌, ◌-◌, map}
-use Rattle.strc_syntax.specs.View.{stmt_view}
-use Rattle.strc_grammar.specs.Grammar.{kinds}
-use Rattle.strc_grammar.specs.Reading.{repeated, brace, one_taller}
-use Rattle.strc_grammar.specs.Streams.{statements, statement}
+use Rattle.strc_parse_tree.specs.View.{stmt_view}
+use Rattle.strc_parse_grammar.specs.Grammar.{kinds}
+use Rattle.strc_parse_grammar.specs.Reading.{repeated, brace, one_taller}
+use Rattle.strc_parse_grammar.specs.Streams.{statements, statement}
 use Rattle.strc_parse.specs.Placed.{IsBlockPlaced}
 use Rattle.strc_parse.proofs.control.StatementRules.statements.Given as goal
 

@@ -1,7 +1,7 @@
 use Rattle.std.proofs.Common.{◌∙◌, ap, arith, length, ◌<◌}
 use Rattle.std.proofs.lemmas.Grind.{get_or_default_zero}
 use Rattle.std.proofs.lemmas.List.{length-set}
-use Rattle.strc_runner.specs.Running.{words_of}
+use Rattle.strc_sched_machine.specs.Running.{words_of}
 use Rattle.strc_sched.proofs.TapeLists.{marked_next, marked_end, tape_below, tapes_long}
 use Rattle.strc_sched.proofs.tapes.Marks.mark.Goals as goal
 

@@ -1,6 +1,6 @@
 use Rattle.std.proofs.Common.{◌≡◌}
 use Rattle.strc_sched.specs.Marks.{IsMarks}
-use Rattle.strc_runner.specs.Running.{words_of}
+use Rattle.strc_sched_machine.specs.Running.{words_of}
 use Rattle.strc_sched.proofs.TapeLists.{AreMarkedBelow}
 use Rattle.strc_sched.proofs.tapes.Marks.mark.Given as goal
 

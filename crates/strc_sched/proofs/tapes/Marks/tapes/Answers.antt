@@ -2,14 +2,14 @@ use Rattle.std.proofs.Common.{◌∙◌, ap, sym, ◌++◌, ◌∷◌, [], lengt
 use Rattle.std.specs.Prelude.{slice_index}
 use Rattle.std.proofs.lemmas.Grind.{get_or_default_zero}
 use Rattle.std.proofs.lemmas.List.{length-set, map-append}
-use Rattle.strc_semantics.specs.declared.word.Word.{Word}
-use Rattle.strc_graph.specs.Graphs.{gives_words}
-use Rattle.strc_graph.specs.NodeView.{node_view}
-use Rattle.strc_refusal.specs.Tapes.{tape, tape_view}
-use Rattle.strc_admissible.specs.Machine.{words_at}
-use Rattle.strc_runner.specs.Running.{words_of}
+use Rattle.strc_work_meaning.specs.declared.word.Word.{Word}
+use Rattle.strc_elab_graph.specs.Graphs.{gives_words}
+use Rattle.strc_elab_graph.specs.NodeView.{node_view}
+use Rattle.strc_sched_outcome.specs.Tapes.{tape, tape_view}
+use Rattle.strc_sched_laws.specs.Machine.{words_at}
+use Rattle.strc_sched_machine.specs.Running.{words_of}
 use Rattle.strc_sched.proofs.TapeLists.{tape_here, no_tape_here, tapes_later, other_words}
-use Rattle.strc_runner.proofs.WordLists.{own_words}
+use Rattle.strc_sched_machine.proofs.WordLists.{own_words}
 use Rattle.strc_sched.proofs.tapes.Marks.tapes.Goals.{then-gives_words+in_ok-tape_of+in_ok-push}
 use Rattle.strc_sched.proofs.tapes.Marks.tapes.Goals.{else-gives_words}
 use Rattle.strc_sched.proofs.tapes.Marks.tapes.Goals as goal

@@ -1,10 +1,10 @@
 use Rattle.std.proofs.Common.{◌≡◌, ℕ, ◌≤◌, ◌++◌, length, map, take, drop}
 use Rattle.std.specs.Prelude.{slice_index}
-use Rattle.strc_graph.specs.NodeView.{node_view}
-use Rattle.strc_refusal.specs.Tapes.{tape_view}
-use Rattle.strc_admissible.specs.Machine.{words_at}
+use Rattle.strc_elab_graph.specs.NodeView.{node_view}
+use Rattle.strc_sched_outcome.specs.Tapes.{tape_view}
+use Rattle.strc_sched_laws.specs.Machine.{words_at}
 use Rattle.strc_sched.specs.Marks.{kept_tapes}
-use Rattle.strc_runner.specs.Running.{words_of}
+use Rattle.strc_sched_machine.specs.Running.{words_of}
 use Rattle.strc_sched.specs.Tapes.{tapes_from}
 use Rattle.strc_sched.proofs.tapes.Marks.tapes.Given as goal
 

@@ -1,5 +1,5 @@
 use Rattle.std.proofs.Common.{◌≡◌, Some, None, subst, sym, ap, ◌∙◌}
-use Rattle.strc_code.specs.Links.{place_of}
+use Rattle.strc_work_code.specs.Links.{place_of}
 use Rattle.strc_work.specs.Calls.{Callable, IsFound, IsRefused, names_in}
 use Rattle.strc_work.proofs.Found.{code_named, found_in, named_at, refused_none, refused_other}
 use Rattle.strc_work.proofs.calls.Calls.helper.Goals as goal

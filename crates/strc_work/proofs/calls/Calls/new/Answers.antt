@@ -1,5 +1,5 @@
 use Rattle.std.proofs.Common.{sym}
-use Rattle.strc_semantics.proofs.Turns.{call_limit-is}
+use Rattle.strc_work_meaning.proofs.Turns.{call_limit-is}
 use Rattle.strc_work.proofs.TopCalls.{callable_of}
 use Rattle.strc_work.proofs.calls.Calls.new.Goals as goal
 

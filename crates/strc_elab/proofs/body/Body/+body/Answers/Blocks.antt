@@ -1,10 +1,10 @@
 -- Blocks, and what is inside of one.
 use Rattle.std.proofs.Common.{rules, ◌≡◌, length, drop, Ok, Err}
 use Rattle.std.proofs.Common.{sym, ap, ◌∙◌, subst}
-use Rattle.strc_syntax.specs.View.{stmt_view, block_view}
+use Rattle.strc_parse_tree.specs.View.{stmt_view, block_view}
 use Rattle.strc_elab.specs.Elaboration as spec
 use Rattle.strc_elab.specs.Elaboration.{inside, stmt_run, stmts_run}
-use Rattle.strc_statements.specs.Answers.{IsRefusal}
+use Rattle.strc_elab_statements.specs.Answers.{IsRefusal}
 use Rattle.strc_elab.specs.Answering.{Runs, progress_of, Traces, IsPlaceOf}
 use Rattle.strc_elab.specs.Places.{stmt_trace, block_trace}
 use Rattle.strc_elab.specs.Tasks.{setting_of, tracing_of}
@@ -12,7 +12,7 @@ use Rattle.strc_elab.proofs.Bodies.{inside_refused, inside_ran, left_is, block_n
 use Rattle.strc_elab.proofs.Bodies.{stmts_go_on, names_go_on}
 use Rattle.strc_elab.proofs.Bodies.{stmts_refused}
 use Rattle.strc_elab.proofs.BodyPlaces.{blocks_go_on, block_placed}
-use Rattle.strc_statements.proofs.Refusals.{refused_same}
+use Rattle.strc_elab_statements.proofs.Refusals.{refused_same}
 use Rattle.strc_elab.proofs.Places.{placed_same}
 use Rattle.strc_elab.proofs.body.Body.+body.Goals as goal
 

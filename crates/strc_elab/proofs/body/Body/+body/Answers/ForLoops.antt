@@ -2,22 +2,22 @@
 use Rattle.std.proofs.Common.{rules, ◌≡◌, suc, true, false, length, Option, Ok, Err}
 use Rattle.std.proofs.Common.{refl, sym, ap, ◌∙◌, subst, arith}
 use Rattle.std.specs.Option.{option_map}
-use Rattle.strc_base.specs.Results.{result_and_then}
-use Rattle.strc_syntax.specs.Tree as tree
-use Rattle.strc_syntax.specs.View.{expr_view, stmt_view}
-use Rattle.strc_semantics.specs.Arithmetic.{is_true}
-use Rattle.strc_semantics.specs.Firing as firing
-use Rattle.strc_semantics.specs.Firing.{turn_limit}
-use Rattle.strc_semantics.specs.Typing.{names_after}
+use Rattle.strc_lex_names.specs.Results.{result_and_then}
+use Rattle.strc_parse_tree.specs.Tree as tree
+use Rattle.strc_parse_tree.specs.View.{expr_view, stmt_view}
+use Rattle.strc_work_meaning.specs.Arithmetic.{is_true}
+use Rattle.strc_work_meaning.specs.Firing as firing
+use Rattle.strc_work_meaning.specs.Firing.{turn_limit}
+use Rattle.strc_work_meaning.specs.Typing.{names_after}
 use Rattle.strc_elab.specs.Elaboration as spec
-use Rattle.strc_statements.specs.Statements.{computed}
+use Rattle.strc_elab_statements.specs.Statements.{computed}
 use Rattle.strc_elab.specs.Elaboration.{condition_evaluated, inside, stmt_run}
-use Rattle.strc_statements.specs.Answers.{IsRefusal}
+use Rattle.strc_elab_statements.specs.Answers.{IsRefusal}
 use Rattle.strc_elab.specs.Answering.{Runs, progress_of, Traces, IsPlaceOf}
 use Rattle.strc_elab.specs.Places.{stmt_trace, for_trace}
 use Rattle.strc_elab.specs.Places.{for_turns_trace, turn_trace}
 use Rattle.strc_elab.specs.Loops.{for_looped}
-use Rattle.strc_statements.specs.Saying.{store_of}
+use Rattle.strc_elab_statements.specs.Saying.{store_of}
 use Rattle.strc_elab.specs.Tasks.{setting_of, tracing_of}
 use Rattle.strc_elab.proofs.Bodies.{inside_refused, inside_ran, left_is}
 use Rattle.strc_elab.proofs.Bodies.{statement_names_left}
@@ -26,7 +26,8 @@ use Rattle.strc_elab.proofs.LoopPlaces.{Turn, test_placed, turn_placed, body_pla
 use Rattle.strc_elab.proofs.LoopPlaces.{trace_ends, trace_over}
 use Rattle.strc_elab.proofs.LoopRuns.{Test, Step, test_refused, loop_ends, turn_refused}
 use Rattle.strc_elab.proofs.LoopRuns.{body_refused, loop_goes_on, loop_over}
-use Rattle.strc_statements.proofs.Refusals.{refused_same, first_refused, second_refused, both_done}
+use Rattle.strc_elab_statements.proofs.Refusals.{refused_same, first_refused, second_refused}
+use Rattle.strc_elab_statements.proofs.Refusals.{both_done}
 use Rattle.strc_elab.proofs.Places.{placed_at, placed_among, first_placed}
 use Rattle.strc_elab.proofs.Places.{second_placed, both_traced, moved_among}
 use Rattle.strc_elab.proofs.body.Body.+body.Goals as goal

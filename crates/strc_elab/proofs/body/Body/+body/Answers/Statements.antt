@@ -2,11 +2,11 @@
 use Rattle.std.proofs.Common.{rules, ◌≡◌, suc, true, false, length, Some, Ok, Err}
 use Rattle.std.proofs.Common.{sym, ap, ◌∙◌, subst}
 use Rattle.std.specs.Option.{option_map}
-use Rattle.strc_syntax.specs.Tree as tree
-use Rattle.strc_syntax.specs.View.{expr_view, stmt_view, block_view}
-use Rattle.strc_syntax.specs.declared.tree.Stmt.{Stmt}
-use Rattle.strc_semantics.specs.Arithmetic.{is_true}
-use Rattle.strc_semantics.specs.Firing.{turn_limit}
+use Rattle.strc_parse_tree.specs.Tree as tree
+use Rattle.strc_parse_tree.specs.View.{expr_view, stmt_view, block_view}
+use Rattle.strc_parse_tree.specs.declared.tree.Stmt.{Stmt}
+use Rattle.strc_work_meaning.specs.Arithmetic.{is_true}
+use Rattle.strc_work_meaning.specs.Firing.{turn_limit}
 use Rattle.strc_elab.specs.Elaboration.{condition_evaluated, inside, stmt_run}
 use Rattle.strc_elab.specs.Answering.{Runs, progress_of, Traces}
 use Rattle.strc_elab.specs.Elaboration.{Progress}

@@ -1,19 +1,19 @@
 -- The iterations of a `while`.
 use Rattle.std.proofs.Common.{rules, ◌≡◌, suc, true, false, length, Option, Some, Ok, Err}
 use Rattle.std.proofs.Common.{refl, sym, ap, ◌∙◌, subst, arith}
-use Rattle.strc_syntax.specs.Tree as tree
-use Rattle.strc_syntax.specs.View.{expr_view, stmt_view}
-use Rattle.strc_semantics.specs.Arithmetic.{is_true}
-use Rattle.strc_semantics.specs.Firing as firing
-use Rattle.strc_semantics.specs.Firing.{turn_limit}
+use Rattle.strc_parse_tree.specs.Tree as tree
+use Rattle.strc_parse_tree.specs.View.{expr_view, stmt_view}
+use Rattle.strc_work_meaning.specs.Arithmetic.{is_true}
+use Rattle.strc_work_meaning.specs.Firing as firing
+use Rattle.strc_work_meaning.specs.Firing.{turn_limit}
 use Rattle.strc_elab.specs.Elaboration as spec
-use Rattle.strc_statements.specs.Statements.{computed}
+use Rattle.strc_elab_statements.specs.Statements.{computed}
 use Rattle.strc_elab.specs.Elaboration.{condition_evaluated, inside, stmt_run}
-use Rattle.strc_statements.specs.Answers.{IsRefusal}
+use Rattle.strc_elab_statements.specs.Answers.{IsRefusal}
 use Rattle.strc_elab.specs.Answering.{Runs, progress_of, Traces, IsPlaceOf}
 use Rattle.strc_elab.specs.Places.{stmt_trace, while_trace}
 use Rattle.strc_elab.specs.Loops.{while_looped}
-use Rattle.strc_statements.specs.Saying.{store_of}
+use Rattle.strc_elab_statements.specs.Saying.{store_of}
 use Rattle.strc_elab.specs.Tasks.{setting_of, tracing_of}
 use Rattle.strc_elab.proofs.LoopPlaces.{Turn, test_placed, turn_placed, body_placed, trace_goes_on}
 use Rattle.strc_elab.proofs.LoopPlaces.{trace_ends, trace_over}

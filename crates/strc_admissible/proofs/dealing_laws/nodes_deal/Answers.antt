@@ -1,5 +1,0 @@
-use Rattle.strc_admissible.proofs.Parts.{is_scatter, is_copy, is_gather}
-use Rattle.strc_admissible.proofs.dealing_laws.nodes_deal.Goals as goal
-
-pub returns : goal.returns
-returns c = λ copied fission. (is_scatter fission, is_copy copied fission, is_gather fission)

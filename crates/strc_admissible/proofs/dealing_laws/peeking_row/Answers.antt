@@ -1,5 +1,0 @@
-use Rattle.strc_admissible.proofs.Peeking.{peeking_row}
-use Rattle.strc_admissible.proofs.dealing_laws.peeking_row.Goals as goal
-
-pub returns : goal.returns
-returns c = peeking_row

@@ -1,5 +1,0 @@
-use Rattle.strc_admissible.proofs.GoingOn.{graphs_go_on}
-use Rattle.strc_admissible.proofs.parts_laws.graphs_go_on.Goals as goal
-
-pub returns : goal.returns
-returns c = graphs_go_on

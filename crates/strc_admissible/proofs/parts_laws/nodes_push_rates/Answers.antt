@@ -1,5 +1,0 @@
-use Rattle.strc_admissible.proofs.Nodes.{nodes_push_rates}
-use Rattle.strc_admissible.proofs.parts_laws.nodes_push_rates.Goals as goal
-
-pub returns : goal.returns
-returns c = nodes_push_rates

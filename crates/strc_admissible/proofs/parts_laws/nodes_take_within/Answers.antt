@@ -1,5 +1,0 @@
-use Rattle.strc_admissible.proofs.Repeats.{nodes_take_within}
-use Rattle.strc_admissible.proofs.parts_laws.nodes_take_within.Goals as goal
-
-pub returns : goal.returns
-returns c = nodes_take_within

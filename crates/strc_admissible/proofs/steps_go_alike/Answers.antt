@@ -1,5 +1,0 @@
-use Rattle.strc_admissible.proofs.OrdersAlike.{steps_go_alike}
-use Rattle.strc_admissible.proofs.steps_go_alike.Goals as goal
-
-pub returns : goal.returns
-returns c = steps_go_alike

@@ -1,5 +1,0 @@
-use Rattle.strc_cli.proofs.Bytes.{read_append}
-use Rattle.strc_cli.proofs.input_laws.reads_in_pieces.Goals as goal
-
-pub returns : goal.returns
-returns c = read_append

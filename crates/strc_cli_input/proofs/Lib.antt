@@ -1,0 +1,4 @@
+pub mod Bytes
+pub mod NumberWords
+pub mod Inputs
+pub mod InputPieces

@@ -1,0 +1,187 @@
+-- What a message tells of a refusal or a fault: the part of the text that it is about.
+use Rattle.std.specs.Prelude.{◌≡◌, ◌⊎◌, ⊤, ℕ, ◌+◌, Bool, List, [], drop, find, position, slice_get}
+use Rattle.std.specs.Prelude.{Option, Some, None, IfSome, Vec}
+use Rattle.std.specs.Option.{option_and_then}
+use Rattle.std.specs.declared.alloc.Global.{Global}
+use Rattle.strc_lex_names.specs.declared.place.Span.{Span}
+use Rattle.strc_lex.specs.declared.token.Token.{Token}
+use Rattle.strc_parse_tree.specs.Tree.{Declaration}
+use Rattle.strc_parse_tree.specs.View.{declaration_view, program_view}
+use Rattle.strc_parse_tree.specs.declared.tree.Decl.{Decl}
+use Rattle.strc_parse_tree.specs.declared.tree.Program.{Program}
+use Rattle.strc_parse_grammar.specs.Grammar.{Parses, kinds}
+use Rattle.strc_parse.specs.Placed.{IsProgramPlaced}
+use Rattle.strc_parse.specs.Texts.{HasTokens}
+use Rattle.strc_work_meaning.specs.declared.body.Body.{Body}
+use Rattle.strc_work_meaning.specs.declared.fault.Cause.{Cause}
+use Rattle.strc_elab_graph.specs.NodeView.{GraphParts}
+use Rattle.strc_elab_graph.specs.declared.graph.Node.{Node}
+use Rattle.strc_work_rules.specs.declared.site.Site.{Site}
+use Rattle.strc_work_rules.specs.declared.site.Mismatch.TheVariants as mismatch
+use Rattle.strc_elab_statements.specs.MainStreams.{can_be_main}
+use Rattle.strc_elab_stream.specs.declared.stream.Stream.{Stream}
+use Rattle.strc_run_refusal.specs.declared.placed_refusal.PlacedRefusal.{PlacedRefusal}
+use Rattle.strc_run_refusal.specs.declared.refusal.Refusal.{Refusal}
+use Rattle.strc_run_refusal.specs.declared.refusal.Refusal.TheVariants as refusal
+use Rattle.strc_cli_source.specs.declared.preorder.Preorder.{Preorder}
+use Rattle.strc_cli_source.specs.Messages.{IsMessageOf}
+use Rattle.strc_cli_source.specs.Preorders.{IsPreorderOf}
+use Rattle.strc_cli_source.specs.Spelling.{Marks}
+use Rattle.strc_cli_places.specs.Marked.{MarksRefusal}
+use Rattle.strc_cli_places.specs.Nodes.{heading_of, node_statement}
+use Rattle.strc_cli_places.specs.Pairs.{AreApart, first_readers, first_writer}
+use Rattle.strc_cli_places.specs.Parts.{declarations_of}
+use Rattle.strc_cli_places.specs.Refused.{MarksFaultOf, body_fired}
+use Rattle.strc_cli_messages.specs.Sites.{site_of}
+
+-- a declaration could be the main stream
+abbrev pub could_be_main : Decl → Bool
+could_be_main declaration = can_be_main (declaration_view declaration)
+
+-- two nodes that don't go together, as far as they are known
+abbrev pub IsPair : Refusal → Preorder → Option (ℕ × ℕ) → Type 0
+IsPair refusal.TwoInputs order pair = pair ≡ first_readers order.nodes.items
+IsPair (refusal.TapeTwice node) order pair = pair ≡ first_writer order.nodes.items node
+IsPair refusal.Disconnected order pair = AreApart order pair
+IsPair refused order pair = ⊤
+
+-- of two nodes the statement that adds the second is marked, or where they aren't known the site
+abbrev pub MarksSecond : List Token → (asked : Option (List ℕ)) → Option Program → Preorder → Site
+    → Option (ℕ × ℕ) → Option Span → Type 0
+MarksSecond tokens asked program order site None place = place ≡ heading_of tokens site.place
+MarksSecond tokens asked program order site (Some pair) place =
+    place ≡ heading_of tokens (node_statement asked program (Some order) pair.1)
+
+abbrev pub MarksPair : List Token → (asked : Option (List ℕ)) → Option Program → Option Preorder
+    → Site → Refusal → Option Span → Type 0
+MarksPair tokens asked program None site refused place = place ≡ heading_of tokens site.place
+MarksPair tokens asked program (Some order) site refused place = (pair : Option (ℕ × ℕ))
+    × IsPair refused order pair × MarksSecond tokens asked program order site pair place
+
+-- the second of the declarations that could be the main stream
+abbrev pub second_main : List Decl → Option Decl
+second_main declarations = option_and_then
+    (λ first. find could_be_main (drop (first + 1) declarations))
+    (position could_be_main declarations)
+
+-- its name is marked, or where there is none the site
+abbrev pub MarksMainAgain : (text : List ℕ) → List Token → Site → Option Decl → Option Span
+    → Type 0
+MarksMainAgain text tokens site None place = place ≡ heading_of tokens site.place
+MarksMainAgain text tokens site (Some second) place = Marks text tokens second.name place
+
+-- what is marked of a refusal at a site
+abbrev pub MarksSite : List ℕ → List Token → (asked : Option (List ℕ)) → Option Program
+    → Option Preorder → Option GraphParts → Site → Refusal → Option Span → Type 0
+MarksSite text tokens asked program order graph site refusal.ManyMains place =
+    MarksMainAgain text tokens site (second_main (declarations_of program)) place
+MarksSite text tokens asked program order graph site refusal.TwoInputs place =
+    MarksPair tokens asked program order site refusal.TwoInputs place
+MarksSite text tokens asked program order graph site (refusal.TapeTwice node) place =
+    MarksPair tokens asked program order site (refusal.TapeTwice node) place
+MarksSite text tokens asked program order graph site refusal.Disconnected place =
+    MarksPair tokens asked program order site refusal.Disconnected place
+MarksSite text tokens asked program order graph site refused place =
+    MarksRefusal text tokens asked program order graph site refused place
+
+-- a message about the second of two nodes, of a program whose nodes are known
+pub record TellsSecond (file text : List ℕ) (tokens : List Token) (asked : Option (List ℕ))
+    (program : Option Program) (order : Preorder) (refused : Refusal) (message : List ℕ) : Type 0
+  where
+    pub pair : ℕ × ℕ
+    pub is_pair : IsPair refused order (Some pair)
+    pub told : IsMessageOf file text
+        (heading_of tokens (node_statement asked program (Some order) pair.1)) message
+
+-- such a message, where the two are known
+abbrev pub TellsNodes : (file text : List ℕ) → List Token → (asked : Option (List ℕ))
+    → Option Program → Option Preorder → Refusal → Option (Vec ℕ Global) → Type 0
+TellsNodes file text tokens asked program None refused None = ⊤
+TellsNodes file text tokens asked program None refused (Some message) = ⊥
+TellsNodes file text tokens asked program (Some order) refused None = IsPair refused order None
+TellsNodes file text tokens asked program (Some order) refused (Some message) =
+    TellsSecond file text tokens asked program order refused message.items
+
+-- a message about a stream's name that is declared again, at the site
+pub record TellsAgain (file text : List ℕ) (site : Site) (message : List ℕ) : Type 0 where
+  pub first : Option Span
+  pub second : Span
+  pub twice : site.mismatch ≡ Some (mismatch.StreamTwice first)
+  pub again : site.place ≡ Some second
+  pub told : IsMessageOf file text (Some second) message
+
+-- a message about the part that is marked
+pub record TellsSite (file text : List ℕ) (tokens : List Token) (asked : Option (List ℕ))
+    (program : Option Program) (order : Option Preorder) (graph : Option GraphParts) (site : Site)
+    (refused : Refusal) (message : List ℕ) : Type 0 where
+  pub place : Option Span
+  pub marks : MarksSite text tokens asked program order graph site refused place
+  pub told : IsMessageOf file text place message
+
+-- a message about the second stream that could be the main one, where there is one
+abbrev pub TellsMains : (file text : List ℕ) → List Token → Option Decl → Option (Vec ℕ Global)
+    → Type 0
+TellsMains file text tokens None None = ⊤
+TellsMains file text tokens (Some second) (Some message) = (place : Option Span)
+    × Marks text tokens second.name place × IsMessageOf file text place message.items
+TellsMains file text tokens second found = ⊥
+
+-- a message about two parts that don't go together, where they are known: two streams of a name,
+-- two that could be the main one, or two nodes
+abbrev pub TellsTwo : (file text : List ℕ) → List Token → (asked : Option (List ℕ))
+    → Option Program → Option Preorder → Option GraphParts → Site → Refusal
+    → Option (Vec ℕ Global) → Type 0
+TellsTwo file text tokens asked program order graph site refusal.ManyMains found =
+    TellsMains file text tokens (second_main (declarations_of program)) found
+TellsTwo file text tokens asked program order graph site refusal.TwoInputs found =
+    TellsNodes file text tokens asked program order refusal.TwoInputs found
+TellsTwo file text tokens asked program order graph site (refusal.TapeTwice node) found =
+    TellsNodes file text tokens asked program order (refusal.TapeTwice node) found
+TellsTwo file text tokens asked program order graph site refusal.Disconnected found =
+    TellsNodes file text tokens asked program order refusal.Disconnected found
+TellsTwo file text tokens asked program order graph site refused found = IfSome found (λ message.
+    TellsSite file text tokens asked program order graph site refused message.items)
+
+-- the tokens of a text; none where it has none
+abbrev pub IsTokensOf : (text : List ℕ) → List Token → Type 0
+IsTokensOf text tokens = HasTokens text tokens
+    ⊎ ((tokens ≡ []) × ((other : List Token) → HasTokens text other → ⊥))
+
+-- the tree of a row of tokens; none where they are no program's
+abbrev pub IsTreeOf : List Token → Option Program → Type 0
+IsTreeOf tokens None = (program : List Declaration) → Parses (kinds tokens) program → ⊥
+IsTreeOf tokens (Some program) =
+    Parses (kinds tokens) (program_view program) × IsProgramPlaced tokens program
+
+-- the nodes of a stream, where there is one
+abbrev pub AreNodesOf : Option Stream → Option Preorder → Type 0
+AreNodesOf None order = order ≡ None
+AreNodesOf (Some stream) None = ⊥
+AreNodesOf (Some stream) (Some order) = IsPreorderOf stream order
+
+-- a message about a refusal of a text: about the part of it that breaks the rule, by the text's
+-- tokens and its tree, the nodes of the stream that is refused, and its graph
+pub record TellsOfText (file text : List ℕ) (asked : Option (List ℕ)) (placed : PlacedRefusal)
+    (message : List ℕ) : Type 0 where
+  pub tokens : List Token
+  pub is_tokens : IsTokensOf text tokens
+  pub program : Option Program
+  pub is_tree : IsTreeOf tokens program
+  pub order : Option Preorder
+  pub are_nodes : AreNodesOf placed.stream order
+  pub tells : TellsSite file text tokens asked program order placed.graph
+      (site_of text tokens program placed) placed.refusal message
+
+-- a message about a fault in a firing of a node, of this body
+pub record TellsFault (file text : List ℕ) (tokens : List Token) (cause : Cause) (body : Body)
+    (faulting : Option Node) (message : List ℕ) : Type 0 where
+  pub place : Option Span
+  pub marks : MarksFaultOf text tokens cause body faulting place
+  pub told : IsMessageOf file text place message
+
+-- a message about a fault in a firing of one of these nodes, by its number, after so many others
+pub record TellsFaultOfText (file text : List ℕ) (nodes : List Node) (node firing : ℕ)
+    (cause : Cause) (message : List ℕ) : Type 0 where
+  pub tokens : List Token
+  pub is_tokens : IsTokensOf text tokens
+  pub tells : TellsFault file text tokens cause (body_fired firing) (slice_get nodes node) message

@@ -1,0 +1,222 @@
+// What a person reads of a run that ends early, or that isn't run.
+
+ghost use Rattle.std.specs.Prelude.{◌≡◌, [], codes, IfOk, slice_get};
+ghost use Rattle.strc_cli_places.specs.Nodes.{MarksName};
+ghost use Rattle.strc_cli_places.specs.Refused as spec;
+ghost use Rattle.strc_cli_places.specs.Refused.{MarksFaultOf};
+ghost use Rattle.strc_cli_source.specs.Messages.{IsMessage};
+ghost use Rattle.strc_cli_messages.specs.Told as told;
+
+use crate::refusal::tokens_of;
+use std::alloc::Global;
+use strc_cli_places::bodies::faulting_statement;
+use strc_cli_source::message::Message;
+use strc_cli_source::nodes::push_node;
+use strc_cli_source::operators::faulting_part;
+use strc_cli_source::source::Source;
+use strc_cli_source::spelling::spelled_or_first;
+use strc_cli_source::tokens::keyword_before;
+use strc_elab_graph::graph::{Graph, Node};
+use strc_elab_graph::instance::Instance;
+use strc_lex::token::Keyword;
+use strc_lex_names::memory::NoMemory;
+use strc_lex_names::place::Span;
+use strc_parse_tree::tree::{FilterTree, Member, Stmt};
+use strc_sched_outcome::outcome::Round;
+use strc_sched_outcome::run_refusal::RunRefusal;
+use strc_work_meaning::body::Body;
+use strc_work_meaning::fault::Cause;
+
+/// A firing that faulted.
+#[derive(Clone, Copy)]
+pub struct FaultSite {
+    /// The node, by its number.
+    pub node: u32,
+    /// How often it had fired before.
+    pub firing: u64,
+    pub round: Round,
+    pub cause: Cause,
+}
+
+/// What a person reads of a fault in the run of a flat graph: the place in the file of the
+/// statement or the filter, and one sentence with the node's name, its firing and the round.
+///
+/// `main` is the main stream that was asked for.
+pub fn fault_message<'a>(
+    alloc: Global,
+    file: &'a str,
+    text: &'a [u8],
+    main: Option<&'a str>,
+    graph: &Graph,
+    fault: FaultSite,
+) -> Result<Vec<u8>, NoMemory>
+    ensures message { IfOk result (λ message. IsMessage file.now text.now message.items) }
+    // It is about the part of the body that faults, where only one can, or about its filter.
+    ensures told { IfOk result (λ message. told.TellsFaultOfText file.now text.now graph.now.nodes
+        fault.node fault.firing fault.cause message.items) }
+{
+    let tokens = tokens_of(alloc, text)?;
+    let source = Source {
+        file,
+        text,
+        tokens: &tokens,
+        main,
+    };
+    write_fault(alloc, source, graph, fault)
+}
+
+fn write_fault(
+    alloc: Global,
+    source: Source<'_>,
+    graph: &Graph,
+    fault: FaultSite,
+) -> Result<Vec<u8>, NoMemory>
+    ensures { IfOk result (λ message. told.TellsFault source.entry.file.now
+        source.entry.text.now source.entry.tokens.now fault.cause (spec.body_fired fault.firing)
+        (slice_get graph.now.nodes fault.node) message.items) }
+{
+    let place = place_of_fault(alloc, source, graph, fault)?;
+    let mut message = Message::new(alloc);
+    push_node(&mut message, Some(graph), fault.node as usize)?;
+    message.add(cause_words(fault.cause))?;
+    message.add(b" in its firing ")?;
+    message.number(fault.firing)?;
+    push_round(&mut message, fault.round)?;
+    source.excerpt(&mut message, place)?;
+    source.message(alloc, place, message)
+}
+
+/// The statement that faults, where it is known; else the filter.
+fn place_of_fault(
+    alloc: Global,
+    source: Source<'_>,
+    graph: &Graph,
+    fault: FaultSite,
+) -> Result<Option<Span>, NoMemory>
+    ensures { IfOk result (MarksFaultOf source.entry.text.now source.entry.tokens.now fault.cause
+        (spec.body_fired fault.firing) (slice_get graph.now.nodes fault.node)) }
+{
+    let Some(Node::Filter(instance)) = graph.nodes().get(fault.node as usize) else {
+        return Ok(None);
+    };
+    let body = body_fired(fault.firing);
+    match faulting_statement(alloc, &instance.code, body, fault.cause)? {
+        Some(statement) => Ok(Some(faulting_part(source, statement, fault.cause))),
+        None => Ok(place_of_filter(source, instance)),
+    }
+}
+
+/// The body of a firing, by the number of firings before it.
+fn body_fired(before: u64) -> Body
+    ensures { result ≡ spec.body_fired before }
+{
+    if before == 0 {
+        Body::Prework
+    } else {
+        Body::Work
+    }
+}
+
+/// The name by which a filter is declared, or else the statement that adds it.
+fn place_of_filter(source: Source<'_>, instance: &Instance) -> Option<Span>
+    ensures { MarksName source.entry.text.now source.entry.tokens.now instance.now.name result }
+{
+    match &instance.name {
+        Some(name) => spelled_or_first(source, name.place(), name.as_bytes()),
+        None => heading_before(source, first_place(instance.code.tree())?.start),
+    }
+}
+
+/// The statement that adds the filter without a name that has this byte of the text.
+fn heading_before(source: Source<'_>, inside: usize) -> Option<Span> {
+    let filter = keyword_before(source.tokens, inside, Keyword::Filter)?;
+    let mut start = filter.start;
+    for keyword in [Keyword::Add, Keyword::Body, Keyword::Loop] {
+        if let Some(found) = keyword_before(source.tokens, filter.start, keyword) {
+            start = if start == filter.start {
+                found.start
+            } else {
+                start.max(found.start)
+            };
+        }
+    }
+    Some(Span {
+        start,
+        end: filter.end,
+    })
+}
+
+/// The first place in a filter's text that is known.
+fn first_place(tree: &FilterTree) -> Option<Span> {
+    tree.members.iter().find_map(|member| match member {
+        Member::Fields(variables) => Some(variables.place),
+        Member::Prework(rates, block) | Member::Work(rates, block) => match rates.first() {
+            Some(rate) => Some(rate.place),
+            None => block_place(block),
+        },
+        Member::Init(block) | Member::Helper(_, _, _, block) => block_place(block),
+    })
+}
+
+fn block_place(block: &[Stmt]) -> Option<Span> {
+    match block.first() {
+        Some(Stmt::Placed(place, _)) => Some(*place),
+        _ => None,
+    }
+}
+
+/// What a firing did.
+fn cause_words(cause: Cause) -> &'static [u8] {
+    match cause {
+        Cause::DivZero => b" divides by zero",
+        Cause::Index => b" uses an index outside of its array",
+        Cause::PeekRange => b" looks at an item outside of its window",
+        Cause::Turns => b" makes more than 1,000,000 turns of loops and calls",
+        Cause::Calls => b" has more than 64 calls running at once",
+    }
+}
+
+/// When it was.
+fn push_round(message: &mut Message, round: Round) -> Result<(), NoMemory> {
+    match round {
+        Round::Startup => Ok(message.add(b", before the first round")?),
+        Round::At(number) => {
+            message.add(b", in round ")?;
+            message.number(u64::from(number))?;
+            Ok(message.add(b" (both count from 0)")?)
+        }
+    }
+}
+
+/// What a person reads where an accepted text isn't run.
+pub fn not_run_message(alloc: Global, file: &str, refusal: RunRefusal) -> Result<Vec<u8>, NoMemory>
+    ensures { IfOk result (λ message. IsMessage file.now [] message.items) }
+{
+    let mut message = Message::new(alloc);
+    match refusal {
+        RunRefusal::InputShort { need, got } => {
+            message.add(b"these rounds read ")?;
+            message.number(need)?;
+            message.add(b" numbers, and the input has ")?;
+            message.number(got)?;
+        }
+        RunRefusal::RoundsNeeded => {
+            message.add(b"the program reads no input: say how many rounds with --rounds N")?;
+        }
+        RunRefusal::BadWorkers => message.add(b"the number of workers is from 1 to 64")?,
+        RunRefusal::NoMemory => message.add(b"out of memory")?,
+        RunRefusal::NoWorker => message.add(b"no thread could be started")?,
+    }
+    Ok(message.end(alloc, file, b"", None)?)
+}
+
+/// What a person reads of a word of the input that isn't a number; words count from 0.
+pub fn bad_input_message(alloc: Global, word: u64) -> Result<Vec<u8>, NoMemory>
+    ensures { IfOk result (λ message. IsMessage (codes "standard input") [] message.items) }
+{
+    let mut message = Message::new(alloc);
+    message.add(b"word ")?;
+    message.number(word)?;
+    message.add(b" (the first one is word 0) is no number from -2147483648 to 2147483647")?;
+    Ok(message.end(alloc, "standard input", b"", None)?)
+}

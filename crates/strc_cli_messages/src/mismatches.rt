@@ -1,0 +1,177 @@
+// What is said of a broken rule on types, kinds and parts.
+
+use std::alloc::AllocError;
+use strc_cli_places::known::Known;
+use strc_cli_places::places::{kind_keyword, part_keyword};
+use strc_cli_source::message::Message;
+use strc_lex_names::place::Span;
+use strc_parse_tree::tree::CompositeKind;
+use strc_work_meaning::types::ValueType;
+use strc_work_rules::site::{Mismatch, Part};
+
+/// Which rule is broken, at this place.
+pub(crate) fn push_mismatch(
+    message: &mut Message,
+    known: Known<'_>,
+    mismatch: Mismatch,
+    place: Option<Span>,
+) -> Result<(), AllocError> {
+    match mismatch {
+        Mismatch::DeclaredTwice => {
+            match place {
+                Some(place) => message.quoted(known.source.bytes(place))?,
+                None => message.add(b"a name")?,
+            }
+            message.add(b" is declared a second time here")
+        }
+        Mismatch::Foreign(kind, part) => {
+            push_kind(message, b"a ", kind)?;
+            push_part(message, b" has no statements with ", part)
+        }
+        Mismatch::Second(kind, part) => {
+            push_kind(message, b"this ", kind)?;
+            push_part(message, b" has a second ", part)
+        }
+        Mismatch::Missing(kind, part) => {
+            push_kind(message, b"this ", kind)?;
+            push_part(message, b" has no ", part)
+        }
+        Mismatch::Value(wanted, found) => {
+            message.add(wanted_words(wanted))?;
+            message.add(b" is wanted here, and this is ")?;
+            message.add(found_words(found))
+        }
+        _ => message.add(plain_rule(mismatch)),
+    }
+}
+
+fn push_kind(message: &mut Message, before: &[u8], kind: CompositeKind) -> Result<(), AllocError> {
+    message.add(before)?;
+    message.add(kind_keyword(kind).text())
+}
+
+fn push_part(message: &mut Message, before: &[u8], part: Part) -> Result<(), AllocError> {
+    message.add(before)?;
+    message.quoted(part_keyword(part).text())
+}
+
+fn wanted_words(kind: ValueType) -> &'static [u8] {
+    match kind {
+        ValueType::Int => b"a number",
+        ValueType::Boolean => b"a truth value",
+        ValueType::Array => b"an array",
+    }
+}
+
+fn found_words(kind: ValueType) -> &'static [u8] {
+    match kind {
+        ValueType::Int => b"a number",
+        ValueType::Boolean => b"a truth value",
+        ValueType::Array => b"an array without an index",
+    }
+}
+
+/// A rule of which nothing else is told.
+fn plain_rule(mismatch: Mismatch) -> &'static [u8] {
+    match mismatch {
+        Mismatch::NoWork => b"this filter has no `work`",
+        Mismatch::SecondWork => b"this filter has a second `work`",
+        Mismatch::SecondPrework => b"this filter has a second `prework`",
+        Mismatch::SecondInit => b"this filter has a second `init`",
+        Mismatch::ConstantWritten => b"a constant is changed here",
+        Mismatch::VariableInConstant => b"a rate or the length of an array uses a variable here",
+        Mismatch::NoArray => b"an element is taken here of what is no array",
+        Mismatch::WholeArray => b"an array is used here without an index",
+        Mismatch::NoInput => b"no items come in here, so that none can be popped or peeked at",
+        Mismatch::NoOutput => b"no items go out here, so that none can be pushed",
+        Mismatch::NoPrinting => b"nothing can be printed here",
+        Mismatch::RateWithoutItems => b"a rate is above 0 on a side that has no items",
+        Mismatch::NoCalls => b"no helper function can be called here",
+        Mismatch::NothingGiven => b"a value is wanted here, and this helper function gives none",
+        Mismatch::FlowInHelper => b"a helper function doesn't pop, peek, push or print",
+        Mismatch::NoHelper => b"only a helper function returns",
+        Mismatch::ValueMissing => b"this helper function gives a value, and none is returned here",
+        Mismatch::ValueUnwanted => b"this helper function gives no value, and one is returned here",
+        Mismatch::StreamStatement => b"a filter has no statements that put streams together",
+        Mismatch::FilterStatement => b"only a filter pushes or prints",
+        Mismatch::Follows => b"this child doesn't take what the child before it gives",
+        Mismatch::First => {
+            b"the pipeline begins with this child, which doesn't take what the pipeline is to take"
+        }
+        Mismatch::Last => {
+            b"the pipeline ends with this child, which doesn't give what the pipeline is to give"
+        }
+        Mismatch::Sides => {
+            b"the children of this splitjoin don't take and give what it is to take and give"
+        }
+        Mismatch::LoopSides => {
+            b"the weights of this feedbackloop don't go with what it is to take and give"
+        }
+        Mismatch::LoopChild => {
+            b"the body and the loop of a feedbackloop take and give items, and this one doesn't"
+        }
+        _ => b"a type, a kind or a part isn't the one that must be there",
+    }
+}
+
+/// How a broken rule can be mended; nothing where the sentence says enough.
+pub(crate) fn mismatch_hint(mismatch: Mismatch) -> &'static [u8] {
+    match mismatch {
+        Mismatch::NoWork | Mismatch::SecondWork | Mismatch::SecondPrework | Mismatch::SecondInit =>
+            b"a filter has one work, at most one prework and one init",
+        Mismatch::DeclaredTwice => {
+            b"a name is declared once in its block, among fields, and among parameters"
+        }
+        Mismatch::Value(ValueType::Int, ValueType::Boolean) => {
+            b"`c ? 1 : 0` is 1 where c is true, and else 0"
+        }
+        Mismatch::Value(ValueType::Boolean, ValueType::Int) => {
+            b"a comparison, as `x != 0`, is a truth value"
+        }
+        Mismatch::Value(_, ValueType::Array) | Mismatch::WholeArray => {
+            b"an element is written with its index, as `x[0]`"
+        }
+        Mismatch::ConstantWritten => b"a parameter keeps its value: change a variable of its own",
+        Mismatch::VariableInConstant => b"rates and lengths are made of numbers and parameters",
+        Mismatch::NoInput => b"pop and peek are for work and prework of a filter that takes `int`",
+        Mismatch::NoOutput => b"push is for work and prework of a filter that gives `int`",
+        Mismatch::NoPrinting => b"print and println are for work and prework",
+        Mismatch::RateWithoutItems => b"a filter's type says what it takes and gives",
+        Mismatch::NoCalls => b"fields, init, prework, work and helper functions call them",
+        Mismatch::NothingGiven => b"its call is a statement of its own",
+        Mismatch::FlowInHelper => b"do it in work, and give the helper function what it needs",
+        Mismatch::NoHelper => b"a filter gives an item by `push`",
+        Mismatch::ValueMissing => b"write the value, as `return 0;`",
+        Mismatch::ValueUnwanted => b"write `return;`, or give the helper function a type",
+        Mismatch::StreamStatement => b"streams are added in a pipeline or a splitjoin",
+        Mismatch::FilterStatement => b"it is for the work of a filter",
+        Mismatch::Follows => b"see what each child takes and gives",
+        Mismatch::First | Mismatch::Last => {
+            b"a pipeline takes what its first child takes, and gives what its last child gives"
+        }
+        Mismatch::Foreign(kind, part)
+        | Mismatch::Second(kind, part)
+        | Mismatch::Missing(kind, part) => part_hint(kind, part),
+        Mismatch::Sides => b"a splitjoin takes items if a child does, and gives some if one does",
+        Mismatch::LoopSides => {
+            b"a weight before or after the loop is above 0 where it takes or gives items"
+        }
+        _ => b"",
+    }
+}
+
+/// Which parts a composite stream of a kind has.
+fn part_hint(kind: CompositeKind, part: Part) -> &'static [u8] {
+    match (kind, part) {
+        (CompositeKind::Pipeline, Part::Split | Part::Join) => {
+            b"streams side by side are in a splitjoin: add splitjoin { split ..; add ..; join ..; }"
+        }
+        (CompositeKind::Pipeline, _) => b"a pipeline has one add or more",
+        (CompositeKind::Splitjoin, _) => {
+            b"a splitjoin has one split, then one add or more, and one join"
+        }
+        (CompositeKind::Feedbackloop, _) => {
+            b"a feedbackloop has one join, one body, one loop and one split"
+        }
+    }
+}

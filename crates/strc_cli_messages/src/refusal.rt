@@ -1,0 +1,239 @@
+// What a person reads of a refusal.
+
+ghost use Rattle.std.specs.Prelude.{IfOk};
+ghost use Rattle.std.specs.Option.{option_map};
+ghost use Rattle.strc_cli_source.specs.Messages.{IsMessage};
+ghost use Rattle.strc_cli_messages.specs.Told as told;
+
+use crate::hints::push_hint;
+use crate::mismatches::push_mismatch;
+use crate::pairs::pair_message;
+use crate::sentences::plain_sentence;
+use crate::site::site_of;
+use crate::syntax::push_syntax;
+use std::alloc::Global;
+use strc_cli_places::known::Known;
+use strc_cli_places::places::{code_of, place_of_refusal};
+use strc_cli_places::rate_places::{Moved, moved_of, rate_keyword};
+use strc_cli_source::counts::large_channel;
+use strc_cli_source::message::Message;
+use strc_cli_source::nodes::{push_channel, push_node};
+use strc_cli_source::preorder::{Preorder, preorder_of};
+use strc_cli_source::source::Source;
+use strc_cli_source::stuck::push_stuck_loop;
+use strc_elab_stream::stream::Stream;
+use strc_lex::error::LexError;
+use strc_lex::lexer::lex;
+use strc_lex::token::Token;
+use strc_lex_names::memory::NoMemory;
+use strc_lex_names::place::Span;
+use strc_parse::{ParseError, parse};
+use strc_parse_tree::tree::Program;
+use strc_run_refusal::placed_refusal::PlacedRefusal;
+use strc_run_refusal::refusal::Refusal;
+use strc_work_rules::site::Site;
+
+/// What a person reads of a text's refusal: the place in the file, one sentence, the source line
+/// with a mark under the place, and where it helps a hint; a line feed ends the message.
+///
+/// `main` is the main stream that was asked for.
+pub fn refusal_message<'a>(
+    alloc: Global,
+    file: &'a str,
+    text: &'a [u8],
+    main: Option<&'a str>,
+    placed: &'a PlacedRefusal,
+) -> Result<Vec<u8>, NoMemory>
+    ensures message { IfOk result (λ message. IsMessage file.now text.now message.items) }
+    // It is about the part of the text that breaks the rule: of the text's tree, of the nodes of
+    // the refused stream, and of the refused graph.
+    ensures told { IfOk result (λ message. told.TellsOfText file.now text.now
+        (option_map (λ m. m.now) main.entry) placed.now message.items) }
+{
+    let tokens = tokens_of(alloc, text)?;
+    let program = program_of(alloc, &tokens)?;
+    let nodes = nodes_of(alloc, &placed.stream)?;
+    let source = Source {
+        file,
+        text,
+        tokens: &tokens,
+        main,
+    };
+    let known = Known {
+        alloc,
+        source,
+        program: program.as_ref(),
+        nodes: nodes.as_ref(),
+        graph: placed.graph.as_ref(),
+    };
+    write_at(known, &placed.refusal, site_of(known, placed))
+}
+
+/// The text's tokens; none where it has none.
+pub(crate) fn tokens_of(alloc: Global, text: &[u8]) -> Result<Vec<Token>, NoMemory>
+    ensures { IfOk result (λ tokens. told.IsTokensOf text.now tokens.items) }
+{
+    match lex(alloc, text) {
+        Ok(tokens) => Ok(tokens),
+        Err(LexError::NoMemory) => Err(NoMemory),
+        Err(LexError::Lex { .. } | LexError::TextTooLong) => Ok(Vec::new(alloc)),
+    }
+}
+
+/// The tree of the text's tokens; none where they are no program's.
+fn program_of(alloc: Global, tokens: &[Token]) -> Result<Option<Program>, NoMemory>
+    ensures { IfOk result (told.IsTreeOf tokens.now) }
+{
+    match parse(alloc, tokens) {
+        Ok(program) => Ok(Some(program)),
+        Err(ParseError::NoMemory) => Err(NoMemory),
+        Err(ParseError::Parse { .. } | ParseError::Nesting) => Ok(None),
+    }
+}
+
+/// The nodes of the program's main stream, where it is known.
+fn nodes_of(alloc: Global, stream: &Option<Stream>) -> Result<Option<Preorder>, NoMemory>
+    ensures { IfOk result (told.AreNodesOf stream.now) }
+{
+    match stream {
+        Some(stream) => Ok(Some(preorder_of(alloc, stream)?)),
+        None => Ok(None),
+    }
+}
+
+/// The message of a refusal whose rule is broken at this site.
+#[tactic(auto, using(crate::proofs::Telling::two_told, crate::proofs::Telling::told_alone))]
+fn write_at(known: Known<'_>, refusal: &Refusal, site: Site) -> Result<Vec<u8>, NoMemory>
+    ensures { IfOk result (λ message. told.TellsSite known.entry.source.file.now
+        known.entry.source.text.now known.entry.source.tokens.now
+        (option_map (λ m. m.now) known.entry.source.main)
+        (option_map (λ p. p.now) known.entry.program) (option_map (λ n. n.now) known.entry.nodes)
+        (option_map (λ g. g.now) known.entry.graph) site refusal.now message.items) }
+{
+    if let Some(message) = pair_message(known, refusal, site)? {
+        return Ok(message);
+    }
+    let place = place_of_refusal(known, refusal, site)?;
+    let mut message = Message::new(known.alloc);
+    push_sentence(&mut message, known, refusal, site, place)?;
+    known.source.excerpt(&mut message, place)?;
+    push_hint(&mut message, known, refusal, site)?;
+    known.source.message(known.alloc, place, message)
+}
+
+/// The sentence, about this place.
+fn push_sentence(
+    message: &mut Message,
+    known: Known<'_>,
+    refusal: &Refusal,
+    site: Site,
+    place: Option<Span>,
+) -> Result<(), NoMemory> {
+    let source = known.source;
+    match refusal {
+        Refusal::Parse { token } => push_syntax(known.alloc, message, source, *token),
+        Refusal::UnknownName { name } => {
+            message.quoted(name.as_bytes())?;
+            Ok(message.add(b" isn't declared here")?)
+        }
+        Refusal::TypeMismatch { .. } => match site.mismatch {
+            Some(mismatch) => Ok(push_mismatch(message, known, mismatch, place)?),
+            None => Ok(message.add(plain_sentence(source, refusal))?),
+        },
+        Refusal::RateMismatch { node, .. } => {
+            push_node(message, known.graph, *node)?;
+            push_rates(message, known, *node, refusal)
+        }
+        Refusal::RateLimit { node } => {
+            push_node(message, known.graph, *node)?;
+            push_limit(message, known, *node, refusal)
+        }
+        Refusal::RateUnknown { node } | Refusal::PeekOutside { node } => {
+            push_node(message, known.graph, *node)?;
+            Ok(message.add(plain_sentence(source, refusal))?)
+        }
+        Refusal::Inconsistent { channel } | Refusal::BufferLimit { channel } => {
+            push_channel(message, known.graph, *channel)?;
+            Ok(message.add(plain_sentence(source, refusal))?)
+        }
+        Refusal::CountsTooLarge => push_large(message, known),
+        Refusal::Deadlock { .. } => {
+            message.add(plain_sentence(source, refusal))?;
+            Ok(push_stuck_loop(known.alloc, message, known.graph)?)
+        }
+        _ => Ok(message.add(plain_sentence(source, refusal))?),
+    }
+}
+
+/// The channel whose rates make the counts of a round too large, where it is known.
+fn push_large(message: &mut Message, known: Known<'_>) -> Result<(), NoMemory> {
+    if let Some(graph) = known.graph {
+        if let Some(channel) = large_channel(known.alloc, graph)? {
+            push_channel(message, Some(graph), channel)?;
+            return Ok(message.add(b" makes a node fire more than 1,000,000 times in a round")?);
+        }
+    }
+    Ok(message.add(plain_sentence(known.source, &Refusal::CountsTooLarge))?)
+}
+
+/// The rate of a node that a refusal is about, where it is known.
+fn moved_at(known: Known<'_>, node: usize, refusal: &Refusal) -> Result<Option<Moved>, NoMemory> {
+    match code_of(known, node) {
+        Some(code) => moved_of(known.alloc, code, refusal),
+        None => Ok(None),
+    }
+}
+
+/// A filter whose text doesn't push or pop what it declares.
+fn push_rates(
+    message: &mut Message,
+    known: Known<'_>,
+    node: usize,
+    refusal: &Refusal,
+) -> Result<(), NoMemory> {
+    let Refusal::RateMismatch {
+        declared,
+        counted,
+        ..
+    } = refusal
+    else {
+        return Ok(());
+    };
+    message.add(b" declares a ")?;
+    if let Some(moved) = moved_at(known, node, refusal)? {
+        message.quoted(rate_keyword(moved.side).text())?;
+        message.add(b" ")?;
+    }
+    message.add(b"rate of ")?;
+    message.number(u64::from(*declared))?;
+    message.add(b", and its statements come to ")?;
+    Ok(message.number(u64::from(*counted))?)
+}
+
+/// A filter with a rate that isn't allowed.
+fn push_limit(
+    message: &mut Message,
+    known: Known<'_>,
+    node: usize,
+    refusal: &Refusal,
+) -> Result<(), NoMemory> {
+    match moved_at(known, node, refusal)? {
+        Some(moved) => {
+            message.add(b" has a ")?;
+            message.quoted(rate_keyword(moved.side).text())?;
+            Ok(message.add(limit_words(moved))?)
+        }
+        None => Ok(message.add(b" has a rate that isn't allowed")?),
+    }
+}
+
+/// What is wrong with a rate.
+fn limit_words(moved: Moved) -> &'static [u8] {
+    if moved.declared < 0 {
+        b" rate below 0"
+    } else if moved.declared == 0 {
+        b" rate of 0 or none, and moves items on this side"
+    } else {
+        b" rate above 65,536"
+    }
+}

@@ -1,0 +1,80 @@
+// The sentences that need nothing but the refusal.
+
+use strc_cli_source::source::Source;
+use strc_run_refusal::refusal::Refusal;
+use strc_work_meaning::fault::Cause;
+
+/// What is said of a refusal; of one that names a node or a channel, what follows their names.
+pub(crate) fn plain_sentence(source: Source<'_>, refusal: &Refusal) -> &'static [u8] {
+    match refusal {
+        Refusal::Lex { at } => lexical_sentence(source.text, *at),
+        Refusal::ConstFault { cause } => fault_sentence(*cause),
+        Refusal::NoMain => no_main(source.main),
+        Refusal::TypeMismatch { .. } => {
+            b"a type, a kind or a part isn't the one that must be there"
+        }
+        Refusal::BadArguments { .. } => {
+            b"another number of arguments is given here than there are parameters"
+        }
+        Refusal::BadWeights { .. } => b"the weights in this statement don't fit its children",
+        Refusal::RateUnknown { .. } => b" pushes or pops a number of items that can't be counted",
+        Refusal::PeekOutside { .. } => b" looks at an item that is never in its window",
+        Refusal::Inconsistent { .. } => b" can't be balanced",
+        Refusal::BufferLimit { .. } => b" would hold more than 16,777,216 items",
+        _ => program_sentence(refusal),
+    }
+}
+
+/// Why no token begins at a byte.
+fn lexical_sentence(text: &[u8], at: usize) -> &'static [u8] {
+    match text.get(at) {
+        Some(b'"') => b"this string isn't closed on its line, or has a backslash in it",
+        Some(b'/') => b"this comment is never closed",
+        Some(b'.') => b"numbers have no decimal point: items are integers",
+        Some(b'0'..=b'9') => b"this isn't a number from 0 to 2147483648 without needless zeros",
+        _ => b"no token begins like this",
+    }
+}
+
+/// Which fault the text comes to before it runs.
+fn fault_sentence(cause: Cause) -> &'static [u8] {
+    match cause {
+        Cause::DivZero => b"a number is divided by zero while the streams are put together",
+        Cause::Index => b"an index or a length is out of bounds while the streams are put together",
+        Cause::PeekRange => b"an item is looked at while the streams are put together",
+        Cause::Turns => b"loops turn more than 1,000,000 times while the streams are put together",
+        Cause::Calls => b"more than 64 calls run at once while the streams are put together",
+    }
+}
+
+fn no_main(main: Option<&str>) -> &'static [u8] {
+    match main {
+        Some(_) => b"the stream that --main names isn't void->void without parameters",
+        None => b"no stream is declared void->void without parameters",
+    }
+}
+
+/// What is wrong with the whole program.
+fn program_sentence(refusal: &Refusal) -> &'static [u8] {
+    match refusal {
+        Refusal::TextTooLong => b"the text is longer than 1,048,576 bytes",
+        Refusal::Nesting => b"a statement or an expression is nested deeper than 256",
+        Refusal::ManyMains => b"several streams are declared void->void without parameters",
+        Refusal::DepthLimit => b"streams are added in one another more than 64 deep",
+        Refusal::NodeLimit => b"the program has more than 4,096 nodes",
+        Refusal::TwoInputs => b"more than one FileReader takes the input",
+        Refusal::TapeTwice { .. } => b"two FileWriters write to the same file",
+        Refusal::Disconnected => b"the nodes aren't all connected by channels",
+        Refusal::CountsTooLarge => b"a node would fire more than 1,000,000 times in a round",
+        Refusal::StartupUnbounded => {
+            b"no firings before the first round give each node what it looks at"
+        }
+        Refusal::Deadlock { in_startup: true } => {
+            b"the firings before the first round get stuck: each node waits for items"
+        }
+        Refusal::Deadlock { in_startup: false } => {
+            b"the firings of a round get stuck: each node waits for items"
+        }
+        _ => b"out of memory",
+    }
+}

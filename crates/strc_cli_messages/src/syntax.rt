@@ -1,0 +1,61 @@
+// What a person reads of a token that can't stand where it is.
+
+use crate::expected_tokens::{Expected, expected_after};
+use std::alloc::Global;
+use strc_cli_source::message::Message;
+use strc_cli_source::source::Source;
+use strc_lex_names::memory::NoMemory;
+use strc_lex_names::place::Span;
+
+/// What is where it can't be, and what could be there.
+pub(crate) fn push_syntax(
+    alloc: Global,
+    message: &mut Message,
+    source: Source<'_>,
+    token: usize,
+) -> Result<(), NoMemory> {
+    let end = match source.tokens.get(token) {
+        Some(found) => {
+            message.quoted(source.bytes(found.span))?;
+            message.add(b" can't stand here")?;
+            found.span.start
+        }
+        None => {
+            message.add(b"the text ends too soon")?;
+            source.text.len()
+        }
+    };
+    let beginning = source.bytes(Span { start: 0, end });
+    match expected_after(alloc, beginning, token)? {
+        Some(expected) => push_expected(message, &expected),
+        None => Ok(()),
+    }
+}
+
+/// What could be there: kinds of things first, then tokens.
+fn push_expected(message: &mut Message, expected: &Expected) -> Result<(), NoMemory> {
+    let mut said = false;
+    for (is, words) in [
+        (expected.statement, "a statement"),
+        (expected.expression && !expected.statement, "an expression"),
+        (expected.name && !expected.expression, "a name"),
+        (expected.operator, "an operator"),
+    ] {
+        if is {
+            message.add(separator(said))?;
+            message.add(words.as_bytes())?;
+            said = true;
+        }
+    }
+    for token in &expected.tokens {
+        message.add(separator(said))?;
+        message.quoted(token)?;
+        said = true;
+    }
+    Ok(())
+}
+
+/// What is written before one of several things.
+fn separator(said: bool) -> &'static [u8] {
+    if said { b", " } else { b"; expected " }
+}

@@ -1,0 +1,171 @@
+-- The text of a picture of a flat graph, as Graphviz reads it.
+use Rattle.std.specs.Prelude.{ℕ, zero, suc, List, [], ◌∷◌, ◌++◌, codes, decimal, length}
+use Rattle.std.specs.Prelude.{slice_get, slice_index_or, Option, Some, None, map, nat_lt}
+use Rattle.std.specs.Prelude.{count_by, if◌then◌else◌, Bool, true, false, ◌&&◌, nat_le}
+use Rattle.std.specs.List.{list_any}
+use Rattle.std.specs.Option.{option_map_or}
+use Rattle.strc_elab_graph.specs.declared.graph.Channel.{Channel}
+use Rattle.strc_elab_graph.specs.declared.graph.Node.{Node}
+use Rattle.strc_elab_graph.specs.Graphs.{NodeCode, Scatter, Copy, Gather, gives_words}
+use Rattle.strc_elab_graph.specs.Rates.{pushes_at, pops_at}
+use Rattle.strc_elab_graph.specs.NodeView.{node_view, GraphParts, node_names}
+use Rattle.strc_elab_stream.specs.Instances.{Stream}
+use Rattle.strc_cli_output.specs.Marks.{marks_of}
+use Rattle.strc_cli_output.specs.declared.marks.Mark.{Mark}
+use Rattle.strc_cli_output.specs.declared.marks.Mark.TheVariants as mark
+use Rattle.strc_cli_output.specs.declared.marks.Construct.{Construct}
+use Rattle.strc_cli_output.specs.declared.marks.Construct.TheVariants as construct
+
+-- what is written of the nodes: their names, what they are, how often each fires in a round and
+-- before the first one, and the tapes of those that have one
+pub record Nodes : Type 0 where
+  pub names : List (List ℕ)
+  pub kinds : List Node
+  pub round : List ℕ
+  pub startup : List ℕ
+  pub tapes : List (Option ℕ)
+
+-- nothing, where a node doesn't fire before the first round
+abbrev pub startup_words : ℕ → List ℕ
+startup_words zero = []
+startup_words (suc count) = codes ", " ++ decimal (suc count) ++ codes " before"
+
+-- the tapes of nodes, where the first tape has this number
+abbrev pub tape_numbers : (number : ℕ) → List NodeCode → List (Option ℕ)
+tape_numbers number [] = []
+tape_numbers number (code ∷ nodes) = if gives_words code
+    then Some number ∷ tape_numbers (suc number) nodes else None ∷ tape_numbers number nodes
+
+-- how many there are
+abbrev pub tape_count : List NodeCode → ℕ
+tape_count nodes = count_by gives_words nodes
+
+-- they are named where there are several
+abbrev pub named_tapes : List NodeCode → List (Option ℕ)
+named_tapes nodes = if nat_lt 1 (tape_count nodes) then tape_numbers 0 nodes else []
+
+-- nothing, where a node has none
+abbrev pub tape_words : Option ℕ → List ℕ
+tape_words None = []
+tape_words (Some number) = codes "\\ntape " ++ decimal number
+
+-- the beginning of a node's line, up to its name
+abbrev pub name_words : (names : List (List ℕ)) → (node : ℕ) → List ℕ
+name_words names node =
+    codes "  n" ++ decimal node ++ codes " [label=\"" ++ slice_index_or names node []
+
+-- how often it fires in a round and before the first one
+abbrev pub count_words : Nodes → (node : ℕ) → List ℕ
+count_words nodes node =
+    codes "\\n" ++ decimal (slice_index_or nodes.round node 0) ++ codes " a round"
+    ++ startup_words (slice_index_or nodes.startup node 0)
+
+-- the end of its line: a node is drawn as a box; a scatter widens towards its copies, a copy stands
+-- beside others, and a gather narrows from them
+abbrev pub end_words : NodeCode → List ℕ
+end_words (Scatter fission) = codes "\", shape=trapezium];\n"
+end_words (Copy copied fission) = codes "\", shape=box3d];\n"
+end_words (Gather fission) = codes "\", shape=invtrapezium];\n"
+end_words code = codes "\"];\n"
+
+abbrev pub end_at : List Node → (node : ℕ) → List ℕ
+end_at nodes node =
+    option_map_or (λ n. end_words (node_view n)) (slice_get nodes node) (codes "\"];\n")
+
+-- the line of a node
+abbrev pub node_line : Nodes → (node : ℕ) → List ℕ
+node_line nodes node =
+    name_words nodes.names node ++ count_words nodes node
+    ++ tape_words (slice_index_or nodes.tapes node None) ++ end_at nodes.kinds node
+
+abbrev pub label_of : Construct → List ℕ
+label_of construct.SplitJoin = codes "split-join"
+label_of construct.FeedbackLoop = codes "feedback loop"
+
+-- the lines that open a box, and that close one
+abbrev pub open_lines : (box : ℕ) → Construct → List ℕ
+open_lines box kind =
+    codes "  subgraph cluster_" ++ decimal box ++ codes " {\n  label=\"" ++ label_of kind
+    ++ codes "\";\n"
+
+abbrev pub close_line : List ℕ
+close_line = codes "  }\n"
+
+-- the lines of marks, the next node and the next box having these numbers
+abbrev pub mark_lines : Nodes → (node box : ℕ) → List Mark → List ℕ
+mark_lines nodes node box [] = []
+mark_lines nodes node box (mark.Node ∷ marks) =
+    node_line nodes node ++ mark_lines nodes (suc node) box marks
+mark_lines nodes node box (mark.Open kind ∷ marks) =
+    open_lines box kind ++ mark_lines nodes node (suc box) marks
+mark_lines nodes node box (mark.Close ∷ marks) = close_line ++ mark_lines nodes node box marks
+
+-- what a firing of `work` pushes at a port, or pops: firing 1, since firing 0 may be a prework's
+abbrev pub push_rate : List Node → (node port : ℕ) → ℕ
+push_rate nodes node port =
+    option_map_or (λ n. pushes_at (node_view n) 1 port) (slice_get nodes node) 0
+
+abbrev pub pop_rate : List Node → (node port : ℕ) → ℕ
+pop_rate nodes node port =
+    option_map_or (λ n. pops_at (node_view n) 1 port) (slice_get nodes node) 0
+
+-- nothing, where no items are enqueued on a channel
+abbrev pub enqueued_words : (count : ℕ) → List ℕ
+enqueued_words zero = []
+enqueued_words (suc count) = codes "\\n" ++ decimal (suc count) ++ codes " enqueued"
+
+-- the rates at a channel's ends, by `work`
+abbrev pub rate_words : List Node → Channel → List ℕ
+rate_words nodes channel =
+    codes " [taillabel=\"" ++ decimal (push_rate nodes channel.source.node channel.source.port)
+    ++ codes "\", headlabel=\"" ++ decimal (pop_rate nodes channel.target.node channel.target.port)
+
+-- the size of its buffer, and how many items are enqueued on it
+abbrev pub size_words : Channel → (size : ℕ) → List ℕ
+size_words channel size =
+    codes "\", label=\"size " ++ decimal size ++ enqueued_words (length channel.enqueued.items)
+    ++ codes "\"];\n"
+
+-- whether a stage begins after the source of a channel, and no later than at its target
+abbrev pub is_between : (source target : ℕ) → (bound : ℕ) → Bool
+is_between source target bound = nat_lt source bound && nat_le bound target
+
+-- whether a channel goes from a stage to a later one, so that parcels carry its items
+abbrev pub crosses : (bounds : List ℕ) → Channel → Bool
+crosses bounds channel = list_any (is_between channel.source.node channel.target.node) bounds
+
+-- such a channel is drawn as a bold line
+abbrev pub crossing_words : (crosses : Bool) → List ℕ
+crossing_words true = codes " [style=bold]"
+crossing_words false = []
+
+-- the line of a channel, where stages have these bounds
+abbrev pub channel_line : (bounds : List ℕ) → List Node → Channel → (size : ℕ) → List ℕ
+channel_line bounds nodes channel size =
+    codes "  n" ++ decimal channel.source.node ++ codes " -> n" ++ decimal channel.target.node
+    ++ crossing_words (crosses bounds channel) ++ rate_words nodes channel
+    ++ size_words channel size
+
+-- the lines of channels with buffers of these sizes
+abbrev pub channel_lines : (bounds : List ℕ) → List Node → List Channel → (sizes : List ℕ) → List ℕ
+channel_lines bounds nodes (channel ∷ channels) (size ∷ sizes) =
+    channel_line bounds nodes channel size ++ channel_lines bounds nodes channels sizes
+channel_lines bounds nodes channels sizes = []
+
+-- what is written of a graph's nodes, by their counts
+abbrev pub counted_nodes : GraphParts → (startup round : List ℕ) → Nodes
+counted_nodes graph startup round = record {
+  names = node_names graph;
+  kinds = graph.nodes;
+  round = round;
+  startup = startup;
+  tapes = named_tapes (map node_view graph.nodes);
+}
+
+-- the picture of a stream's flat graph with its counts and the sizes of its buffers: no stages
+-- part it
+abbrev pub picture_text : Stream → GraphParts → (startup round sizes : List ℕ) → List ℕ
+picture_text stream graph startup round sizes =
+    codes "digraph strc {\n  node [shape=box];\n"
+    ++ mark_lines (counted_nodes graph startup round) 0 0 (marks_of stream)
+    ++ channel_lines [] graph.nodes graph.channels sizes ++ codes "}\n"

@@ -1,0 +1,84 @@
+// How often the nodes of a graph after fission fire.
+
+ghost use Rattle.std.specs.Prelude.{◌≡◌, IfOk, slice_index_or};
+ghost use Rattle.strc_elab_graph.specs.NodeView.{node_view};
+ghost use Rattle.strc_cli_output.specs.Parts as spec;
+
+use std::alloc::{AllocError, Global};
+use strc_elab_graph::graph::Node;
+use strc_fiss::split::Origin;
+
+/// How often each of these nodes after fission fires in a round, where those that they come from
+/// fire so often: a scatter and a gather once, and a copy as often as falls to it.
+pub fn round_shares(
+    alloc: Global,
+    nodes: &[Node],
+    origins: &[Origin],
+    counts: &[u32],
+) -> Result<Vec<u32>, AllocError>
+    ensures { IfOk result (λ shares. shares.items
+        ≡ spec.round_shares nodes.now origins.now counts.now) }
+{
+    let mut shares = Vec::new(alloc);
+    for number in 0..nodes.len() {
+        let count = count_before(origins, counts, number);
+        shares.push(round_share(&nodes[number], count))?;
+    }
+    Ok(shares)
+}
+
+/// How often each of them fires before the first round: parts of a node that is split don't.
+pub fn startup_shares(
+    alloc: Global,
+    nodes: &[Node],
+    origins: &[Origin],
+    counts: &[u32],
+) -> Result<Vec<u32>, AllocError>
+    ensures { IfOk result (λ shares. shares.items
+        ≡ spec.startup_shares nodes.now origins.now counts.now) }
+{
+    let mut shares = Vec::new(alloc);
+    for number in 0..nodes.len() {
+        let count = count_before(origins, counts, number);
+        shares.push(startup_share(&nodes[number], count))?;
+    }
+    Ok(shares)
+}
+
+/// A node's share of so many firings in a round.
+fn round_share(node: &Node, count: u32) -> u32
+    ensures { result ≡ spec.round_share (node_view node.now) count }
+{
+    match node {
+        Node::Scatter(_) | Node::Gather(_) => 1,
+        Node::Copy(_, fission) => fission.firings,
+        _ => count,
+    }
+}
+
+/// A node's share of so many firings before the first round.
+fn startup_share(node: &Node, count: u32) -> u32
+    ensures { result ≡ spec.startup_share (node_view node.now) count }
+{
+    match node {
+        Node::Scatter(_) | Node::Copy(_, _) | Node::Gather(_) => 0,
+        _ => count,
+    }
+}
+
+/// The count of the node that one after fission comes from.
+fn count_before(origins: &[Origin], counts: &[u32], number: usize) -> u32
+    ensures { result ≡ spec.count_before origins.now counts.now number }
+{
+    match origins.get(number) {
+        Some(origin) => count_of(counts, origin.node as usize),
+        None => 0,
+    }
+}
+
+/// How often a node fires.
+fn count_of(counts: &[u32], node: usize) -> u32
+    ensures { result ≡ slice_index_or counts.now node 0 }
+{
+    if node < counts.len() { counts[node] } else { 0 }
+}

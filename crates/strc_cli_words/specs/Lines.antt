@@ -1,0 +1,223 @@
+-- What the words of a command line ask for. After the program's name they are
+-- `run FILE [--rounds N] [--workers N] [--ways N] [--fuse N] [--stats] [--main NAME]`,
+-- `check FILE [--main NAME]`, `plan FILE [--main NAME]` or
+-- `graph FILE [--workers N] [--ways N] [--fuse N] [--main NAME]`, and are read as the crate `clap`
+-- reads the words of a command: `strc_app` describes ours.
+use Rattle.std.specs.Prelude.{◌≡◌, ◌⊎◌, ◌↔◌, ℕ, ◌<◌, ◌≤◌, ◌^◌, pos, Bool, true, false, List, []}
+use Rattle.std.specs.Prelude.{Option, Some, None, IfSome, IsSome, option_map, string_bytes, codes}
+use Rattle.std.specs.Str.Parse.{IsNumeral, digits_value, without_leading_plus}
+use Rattle.clap.specs.Walk.{Row, Rule, Text, first_of, one_of}
+use Rattle.clap.specs.Simple.{App, new_app, new_rule, on_top, subcommand_of, with_rule}
+use Rattle.clap.specs.Simple.{with_subcommand}
+use Rattle.clap.specs.Faults.{fault_of}
+use Rattle.clap.specs.Kinds.{Kinds}
+use Rattle.clap.specs.declared.builder.action.ArgAction.TheVariants.{SetTrue}
+use Rattle.clap.specs.declared.builder.value_parser.ValueParser.TheVariants.{Signed}
+use Rattle.clap.specs.declared.error.kind.ErrorKind.{ErrorKind}
+use Rattle.clap.specs.declared.error.kind.ErrorKind.TheVariants.{OutOfMemory}
+use Rattle.strc_cli_words.specs.declared.line.Line.{Line}
+use Rattle.strc_cli_words.specs.declared.line.LineFault.{LineFault}
+use Rattle.strc_cli_words.specs.declared.line.LineFault.TheVariants as fault
+use Rattle.strc_cli_words.specs.declared.line.Command.{Command}
+use Rattle.strc_cli_words.specs.declared.line.Command.TheVariants as command
+
+-- the name of the main stream that a command gives
+abbrev pub main_of : Command → Option (List ℕ)
+main_of (command.Run rounds workers ways fuse stats main) = option_map string_bytes main
+main_of (command.Check main) = option_map string_bytes main
+main_of (command.Plan main) = option_map string_bytes main
+main_of (command.Graph workers ways fuse main) = option_map string_bytes main
+
+-- without words the text comes from standard input, and five rounds are run by one worker, whose
+-- nodes aren't split and whose units aren't fused
+abbrev pub default_line : Line
+default_line = record { file = None; command = command.Run (Some 5) 1 1 0 false None }
+
+-- FILE, which has to be given
+abbrev pub file_rule : Rule
+file_rule = record (new_rule (codes "FILE")) { required = true }
+
+-- `--NAME N`, a number of 32 bits
+abbrev pub number_rule : Text → Rule
+number_rule name = record (new_rule name) {
+  long = Some name;
+  value_names = 1;
+  parser = Some (Signed (pos 0) (pos 4294967295));
+}
+
+-- `--rounds N`
+abbrev pub rounds_rule : Rule
+rounds_rule = number_rule (codes "rounds")
+
+-- `--workers N`
+abbrev pub workers_rule : Rule
+workers_rule = number_rule (codes "workers")
+
+-- the greatest number of copies that can be asked for
+abbrev pub most_ways : ℕ
+most_ways = 64
+
+-- `--ways N`
+abbrev pub ways_rule : Rule
+ways_rule = record (number_rule (codes "ways")) { parser = Some (Signed (pos 1) (pos most_ways)) }
+
+-- the greatest length of a fused unit's list that can be asked for
+abbrev pub most_fused : ℕ
+most_fused = 65536
+
+-- `--fuse N`
+abbrev pub fuse_rule : Rule
+fuse_rule = record (number_rule (codes "fuse")) { parser = Some (Signed (pos 0) (pos most_fused)) }
+
+-- `--stats`
+abbrev pub stats_rule : Rule
+stats_rule =
+    record (new_rule (codes "stats")) { long = Some (codes "stats"); action = Some SetTrue }
+
+-- `--main NAME`
+abbrev pub main_rule : Rule
+main_rule = record (new_rule (codes "main")) { long = Some (codes "main"); value_names = 1 }
+
+-- how a round is shared among workers
+abbrev pub with_sharing : App → App
+with_sharing app = with_rule (with_rule (with_rule app workers_rule) ways_rule) fuse_rule
+
+-- the words of `run` that give its file and its rounds
+abbrev pub rounds_app : App
+rounds_app = with_rule (with_rule (new_app (codes "run")) file_rule) rounds_rule
+
+-- the words of `run`
+abbrev pub run_app : App
+run_app = with_rule (with_rule (with_sharing rounds_app) stats_rule) main_rule
+
+-- the words of `check`
+abbrev pub check_app : App
+check_app = with_rule (with_rule (new_app (codes "check")) file_rule) main_rule
+
+-- the words of `plan`
+abbrev pub plan_app : App
+plan_app = with_rule (with_rule (new_app (codes "plan")) file_rule) main_rule
+
+-- the words of `graph`
+abbrev pub graph_app : App
+graph_app = with_rule (with_sharing (with_rule (new_app (codes "graph")) file_rule)) main_rule
+
+-- the words of the program, which wants a subcommand
+abbrev pub strc_app : App
+strc_app =
+    let strc = on_top (λ shape. record shape { subcommand_required = true })
+    (new_app (codes "strc")) in
+    with_subcommand (with_subcommand (with_subcommand (with_subcommand strc run_app.top)
+    check_app.top) plan_app.top) graph_app.top
+
+-- decimal digits, with a plus sign before them or none, that write this number of 32 bits
+abbrev pub Writes32 : Text → ℕ → Type 0
+Writes32 text number =
+    let digits = without_leading_plus text in
+    IsNumeral 10 digits × (digits_value 10 digits ≡ number) × (number < 2 ^ 32)
+
+-- a number is there where a text is, and is what the text writes
+abbrev pub IsNumberOf : Option Text → Option ℕ → Type 0
+IsNumberOf None None = Unit {0}
+IsNumberOf (Some text) (Some number) = Writes32 text number
+IsNumberOf text number = ⊥
+
+-- a text is none, or writes a number
+abbrev pub IsNumber : Option Text → Type 0
+IsNumber text = (number : Option ℕ) × IsNumberOf text number
+
+-- the number that a text writes, or this one where no text is there
+abbrev pub IsNumberOr : (absent : ℕ) → Option Text → ℕ → Type 0
+IsNumberOr absent None number = number ≡ absent
+IsNumberOr absent (Some text) number = Writes32 text number
+
+-- a number is between these
+abbrev pub IsBetween : (least most number : ℕ) → Type 0
+IsBetween least most number = (least ≤ number) × (number ≤ most)
+
+-- whatever number a text writes is between these
+abbrev pub WritesBetween : (least most : ℕ) → Option Text → Type 0
+WritesBetween least most text =
+    (number : ℕ) → IsNumberOf text (Some number) → IsBetween least most number
+
+-- a flag is set just where the text is `true`
+abbrev pub IsFlagOf : Option Text → Bool → Type 0
+IsFlagOf text flag = (flag ≡ true) ↔ (text ≡ Some (codes "true"))
+
+-- this command is that of the name and of what was found for its options, whatever its main stream;
+-- `run` has a number of rounds, one of workers and one of copies, which are 1 where none is given,
+-- one of entries, which is 0 there, and a flag; `graph` has the middle three, where they are given
+abbrev pub IsCommandOf : Text → List Row → Command → Type 0
+IsCommandOf name rows (command.Run rounds workers ways fuse stats main) =
+    (name ≡ codes "run") × IsNumberOf (one_of (codes "rounds") rows) rounds
+    × IsNumberOr 1 (one_of (codes "workers") rows) workers
+    × IsNumberOr 1 (one_of (codes "ways") rows) ways
+    × IsNumberOr 0 (one_of (codes "fuse") rows) fuse × IsFlagOf (one_of (codes "stats") rows) stats
+IsCommandOf name rows (command.Check main) = name ≡ codes "check"
+IsCommandOf name rows (command.Plan main) = name ≡ codes "plan"
+IsCommandOf name rows (command.Graph workers ways fuse main) =
+    (name ≡ codes "graph") × IsNumberOf (one_of (codes "workers") rows) workers
+    × IsNumberOf (one_of (codes "ways") rows) ways × IsNumberOf (one_of (codes "fuse") rows) fuse
+
+-- the line has what was found for a subcommand's FILE and options
+pub record IsLineOf (name : Text) (rows : List Row) (line : Line) : Type 0 where
+  pub given : IsSome line.file
+  pub file : option_map string_bytes line.file ≡ first_of (codes "FILE") rows
+  pub command : IsCommandOf name rows line.command
+  pub main : main_of line.command ≡ first_of (codes "main") rows
+
+-- a subcommand was met, and the line has what was found for its arguments
+abbrev pub IsLineIn : Option (Text × List Row) → Line → Type 0
+IsLineIn met line =
+    (name : Text) × (rows : List Row) × (met ≡ Some (name, rows)) × IsLineOf name rows line
+
+-- the options that say how a round is shared are given numbers within their bounds, or not given
+pub record HasSharing (rows : List Row) : Type 0 where
+  pub workers : IsNumber (one_of (codes "workers") rows)
+  pub ways : IsNumber (one_of (codes "ways") rows)
+  pub few : WritesBetween 1 most_ways (one_of (codes "ways") rows)
+  pub fuse : IsNumber (one_of (codes "fuse") rows)
+  pub short : WritesBetween 0 most_fused (one_of (codes "fuse") rows)
+
+-- so are the options of `run` that take numbers
+abbrev pub HasNumbers : List Row → Type 0
+HasNumbers rows = IsNumber (one_of (codes "rounds") rows) × HasSharing rows
+
+-- the numbers of copies and of entries are within their bounds
+abbrev pub AreWithin : Command → Type 0
+AreWithin (command.Run rounds workers ways fuse stats main) =
+    IsBetween 1 most_ways ways × (fuse ≤ most_fused)
+AreWithin (command.Graph workers ways fuse main) =
+    IfSome ways (IsBetween 1 most_ways) × IfSome fuse (λ entries. entries ≤ most_fused)
+AreWithin command = Unit {0}
+
+-- the name is that of a subcommand: `run` or `graph`, with their numbers, `check` or `plan`
+abbrev pub IsKnown : Text → List Row → Type 0
+IsKnown name rows =
+    ((name ≡ codes "run") × HasNumbers rows)
+    ⊎ ((name ≡ codes "check") ⊎ ((name ≡ codes "plan")
+    ⊎ ((name ≡ codes "graph") × HasSharing rows)))
+
+-- one of the subcommands was met, with a FILE
+pub record IsCommand (met : Option (Text × List Row)) : Type 0 where
+  pub name : Text
+  pub rows : List Row
+  pub is : met ≡ Some (name, rows)
+  pub known : IsKnown name rows
+  pub file : IsSome (first_of (codes "FILE") rows)
+
+-- the kinds of error that the words may come to, other than out of memory; none where the words are
+-- taken
+abbrev pub faults : List Text → Kinds
+faults words = fault_of strc_app words
+
+-- the words are taken, and ask for this line
+pub record AsksFor (words : List Text) (line : Line) : Type 0 where
+  pub faultless : faults words ≡ []
+  pub asked : IsLineIn (subcommand_of strc_app words) line
+  pub within : AreWithin line.command
+
+-- how a kind of error is reported
+abbrev pub fault_by : ErrorKind → LineFault
+fault_by OutOfMemory = fault.Memory
+fault_by kind = fault.Words

@@ -1,0 +1,421 @@
+// The words of the command line.
+
+ghost use Rattle.std.specs.Prelude.{◌≡◌, ◌≢◌, ◌<◌, ◌≤◌, IfErr, IfOk, Ok, Err, [], false, length};
+ghost use Rattle.std.specs.Prelude.{◌++◌, ◌∷◌, IsOkAnd, map};
+ghost use Rattle.std.specs.Prelude.{codes, option_map, string_bytes};
+ghost use Rattle.clap.specs.Words.{app_of, found_of, kind_of, new_app, rows_of, rule_of};
+ghost use Rattle.clap.specs.Words.{subcommand_rows_of, with_rule};
+ghost use Rattle.clap.specs.Walk.{one_of, texts};
+ghost use Rattle.clap.specs.declared.builder.command.Command.TheViews.{out-Command as fields_of};
+ghost use Rattle.strc_cli_words.specs.Lines.{AsksFor, HasNumbers, HasSharing, IsCommand};
+ghost use Rattle.strc_cli_words.specs.Lines.{IsCommandOf, IsFlagOf, IsKnown, IsLineIn, IsNumber};
+ghost use Rattle.strc_cli_words.specs.Lines.{IsNumberOf, check_app, default_line, fault_by, faults};
+ghost use Rattle.strc_cli_words.specs.Lines.{file_rule, fuse_rule, graph_app, main_of, main_rule};
+ghost use Rattle.strc_cli_words.specs.Lines.{number_rule, plan_app, rounds_app, rounds_rule};
+ghost use Rattle.strc_cli_words.specs.Lines.{run_app};
+ghost use Rattle.strc_cli_words.specs.Lines.{stats_rule, strc_app, ways_rule, with_sharing};
+ghost use Rattle.strc_cli_words.specs.Lines.{workers_rule};
+
+use crate::line::{Command, Line, LineFault};
+use clap::error::ErrorKind;
+use clap::{Arg, ArgAction, ArgMatches, Error, value_parser};
+use std::alloc::{AllocError, Global};
+
+/// What `--version` says after the program's name.
+pub const VERSION: &str = "0.9.0";
+
+// How many rounds the program runs with no words after its name.
+const BARE_ROUNDS: u32 = 5;
+
+/// How many workers run it where no number is given.
+pub const BARE_WORKERS: u32 = 1;
+
+/// Among how many copies a filter is split where no number is given: none is split.
+pub const BARE_WAYS: u32 = 1;
+
+/// How long the list of a fused unit may be where no number is given: no units are fused.
+pub const BARE_FUSE: u32 = 0;
+
+/// The greatest number of copies that can be asked for.
+pub const WAYS_LIMIT: u32 = 64;
+
+/// The greatest length of a fused unit's list that can be asked for.
+pub const FUSE_LIMIT: u32 = 65_536;
+
+/// Reads the words of a command line, the program's name first.
+///
+/// With no words after the name the text comes from standard input and runs for 5 rounds.
+/// Words that the program doesn't know, or a number past its bounds, are `Words`.
+pub fn command<'a>(alloc: Global, words: &'a [&'a str]) -> Result<Line, LineFault>
+    ensures bare { length words.now ≤ 1 → result ≡ Ok default_line }
+    ensures answered { 1 < length words.now → IfOk result (AsksFor (texts words.now)) }
+    ensures refused { result ≡ Err LineFault.Words → faults (texts words.now) ≢ [] }
+{
+    if words.len() <= 1 {
+        return Ok(Line {
+            file: None,
+            command: Command::Run {
+                rounds: Some(BARE_ROUNDS),
+                workers: BARE_WORKERS,
+                ways: BARE_WAYS,
+                fuse: BARE_FUSE,
+                stats: false,
+                main: None,
+            },
+        });
+    }
+    let Ok(parser) = parser(alloc) else {
+        return Err(LineFault::Memory);
+    };
+    match parser.try_get_matches_from(words) {
+        Ok(matches) => line_of(alloc, &matches),
+        Err(error) => Err(fault_of(&error)),
+    }
+}
+
+/// What is wrong with words that `command` doesn't understand, and how the program is called.
+pub fn usage_error<'a>(alloc: Global, words: &'a [&'a str]) -> Result<String, AllocError> {
+    match parser(alloc)?.try_get_matches_from(words).err() {
+        Some(error) => error.to_string(alloc),
+        None => Ok(String::new(alloc)),
+    }
+}
+
+/// Whether words that `command` doesn't understand ask for help, so that what `usage_error` says of
+/// them is no error.
+pub fn asks_for_help<'a>(alloc: Global, words: &'a [&'a str]) -> Result<bool, AllocError> {
+    match parser(alloc)?.try_get_matches_from(words).err() {
+        Some(error) => Ok(!error.use_stderr()),
+        None => Ok(false),
+    }
+}
+
+/// Whether words ask for the version, wherever they do so.
+pub fn asks_for_version(words: &[&str]) -> bool {
+    words
+        .iter()
+        .any(|word| *word == "--version" || *word == "-V")
+}
+
+// The words that the program knows.
+fn parser<'a>(alloc: Global) -> Result<clap::Command<'a>, AllocError>
+    ensures { IfOk result (λ parser. app_of parser ≡ strc_app) }
+{
+    let subcommands = subcommands(alloc)?;
+    clap::Command::new(alloc, "strc")
+        .about("A compiler of StreamIt programs")
+        .subcommand_required(true)
+        .subcommands(subcommands)
+}
+
+// The words of each subcommand.
+fn subcommands<'a>(alloc: Global) -> Result<Vec<clap::Command<'a>>, AllocError>
+    ensures { IfOk result (λ all. map app_of all.items
+        ≡ run_app ∷ check_app ∷ plan_app ∷ graph_app ∷ []) }
+{
+    let run = with_last(Ok(Vec::new(alloc)), run_command(alloc));
+    let check = with_last(run, check_command(alloc));
+    let plan = with_last(check, plan_command(alloc));
+    with_last(plan, graph_command(alloc))
+}
+
+// The items and one more, where there are both. For any type, so that what is dropped where one is
+// missing is no part of the callers.
+fn with_last<T: Drop>(
+    items: Result<Vec<T>, AllocError>,
+    last: Result<T, AllocError>,
+) -> Result<Vec<T>, AllocError>
+    ensures { IfOk result (λ longer. IsOkAnd items (λ before. IsOkAnd last (λ item.
+        longer.items ≡ before.items ++ item ∷ []))) }
+{
+    let mut items = items?;
+    items.push(last?)?;
+    Ok(items)
+}
+
+// The words `run FILE [--rounds N] [--workers N] [--ways N] [--fuse N] [--stats] [--main NAME]`.
+fn run_command<'a>(alloc: Global) -> Result<clap::Command<'a>, AllocError>
+    ensures app { IfOk result (λ run. app_of run ≡ run_app) }
+    ensures local { IfOk result (λ run. (fields_of run).has_globals ≡ false) }
+{
+    let rounds = rounds_command(alloc)?;
+    with_sharing_options(alloc, rounds)?
+        .arg(stats_option(alloc))?
+        .arg(main_option(alloc))
+}
+
+// The words `run FILE [--rounds N]`.
+fn rounds_command<'a>(alloc: Global) -> Result<clap::Command<'a>, AllocError>
+    ensures app { IfOk result (λ run. app_of run ≡ rounds_app) }
+    ensures local { IfOk result (λ run. (fields_of run).has_globals ≡ false) }
+{
+    file_command(alloc, "run", "Runs a StreamIt program")?.arg(rounds_option(alloc))
+}
+
+// These words and `[--workers N] [--ways N] [--fuse N]`: how a round is shared among workers.
+fn with_sharing_options<'a>(
+    alloc: Global,
+    command: clap::Command<'a>,
+) -> Result<clap::Command<'a>, AllocError>
+    requires { (fields_of command).has_globals ≡ false }
+    ensures app { IfOk result (λ longer. app_of longer ≡ with_sharing (app_of command.entry)) }
+    ensures local { IfOk result (λ longer. (fields_of longer).has_globals ≡ false) }
+{
+    command
+        .arg(workers_option(alloc))?
+        .arg(ways_option(alloc))?
+        .arg(fuse_option(alloc))
+}
+
+// The words `check FILE [--main NAME]`.
+fn check_command<'a>(alloc: Global) -> Result<clap::Command<'a>, AllocError>
+    ensures app { IfOk result (λ check. app_of check ≡ check_app) }
+    ensures local { IfOk result (λ check. (fields_of check).has_globals ≡ false) }
+{
+    main_command(alloc, "check", "Checks a StreamIt program")
+}
+
+// The words `plan FILE [--main NAME]`.
+fn plan_command<'a>(alloc: Global) -> Result<clap::Command<'a>, AllocError>
+    ensures app { IfOk result (λ plan. app_of plan ≡ plan_app) }
+    ensures local { IfOk result (λ plan. (fields_of plan).has_globals ≡ false) }
+{
+    let about = "Tells how often each node of a StreamIt program fires";
+    main_command(alloc, "plan", about)
+}
+
+// The words `graph FILE [--workers N] [--ways N] [--fuse N] [--main NAME]`.
+fn graph_command<'a>(alloc: Global) -> Result<clap::Command<'a>, AllocError>
+    ensures app { IfOk result (λ graph. app_of graph ≡ graph_app) }
+    ensures local { IfOk result (λ graph. (fields_of graph).has_globals ≡ false) }
+{
+    let about = "Draws the flat graph of a StreamIt program, for Graphviz";
+    let graph = file_command(alloc, "graph", about)?;
+    with_sharing_options(alloc, graph)?.arg(main_option(alloc))
+}
+
+// The words `NAME FILE [--main NAME]`.
+fn main_command<'a>(
+    alloc: Global,
+    name: &'a str,
+    about: &'a str,
+) -> Result<clap::Command<'a>, AllocError>
+    ensures app { IfOk result (λ command. app_of command
+        ≡ with_rule (with_rule (new_app name.entry.now) file_rule) main_rule) }
+    ensures local { IfOk result (λ command. (fields_of command).has_globals ≡ false) }
+{
+    file_command(alloc, name, about)?.arg(main_option(alloc))
+}
+
+// The words `NAME FILE`.
+fn file_command<'a>(
+    alloc: Global,
+    name: &'a str,
+    about: &'a str,
+) -> Result<clap::Command<'a>, AllocError>
+    ensures app { IfOk result (λ command. app_of command
+        ≡ with_rule (new_app name.entry.now) file_rule) }
+    ensures local { IfOk result (λ command. (fields_of command).has_globals ≡ false) }
+{
+    clap::Command::new(alloc, name)
+        .about(about)
+        .arg(file_argument(alloc))
+}
+
+fn file_argument<'a>(alloc: Global) -> Arg<'a>
+    ensures rule { rule_of result ≡ file_rule }
+    ensures local { result.global ≡ false }
+{
+    Arg::new(alloc, "FILE")
+        .required(true)
+        .help("The file of the program's text")
+}
+
+fn rounds_option<'a>(alloc: Global) -> Arg<'a>
+    ensures rule { rule_of result ≡ rounds_rule }
+    ensures local { result.global ≡ false }
+{
+    number_option(alloc, "rounds").help("How many rounds to run after start-up")
+}
+
+fn workers_option<'a>(alloc: Global) -> Arg<'a>
+    ensures rule { rule_of result ≡ workers_rule }
+    ensures local { result.global ≡ false }
+{
+    number_option(alloc, "workers").help("How many workers run them, 1 to 64")
+}
+
+fn ways_option<'a>(alloc: Global) -> Arg<'a>
+    ensures rule { rule_of result ≡ ways_rule }
+    ensures local { result.global ≡ false }
+{
+    number_option(alloc, "ways")
+        .value_parser(value_parser!(u32).range(1..=i64::from(WAYS_LIMIT)))
+        .help("A filter without state is split among at most N copies, 1 to 64")
+}
+
+fn fuse_option<'a>(alloc: Global) -> Arg<'a>
+    ensures rule { rule_of result ≡ fuse_rule }
+    ensures local { result.global ≡ false }
+{
+    number_option(alloc, "fuse")
+        .value_parser(value_parser!(u32).range(..=i64::from(FUSE_LIMIT)))
+        .help("Two neighbouring units become one where their list has at most N entries")
+}
+
+fn stats_option<'a>(alloc: Global) -> Arg<'a>
+    ensures rule { rule_of result ≡ stats_rule }
+    ensures local { result.global ≡ false }
+{
+    Arg::new(alloc, "stats")
+        .long("stats")
+        .action(ArgAction::SetTrue)
+        .help("Write the steps and the time of each stage to standard error")
+}
+
+fn number_option<'a>(alloc: Global, name: &'a str) -> Arg<'a>
+    ensures rule { rule_of result ≡ number_rule name.entry.now }
+    ensures local { result.global ≡ false }
+{
+    Arg::new(alloc, name)
+        .long(name)
+        .value_name("N")
+        .value_parser(value_parser!(u32))
+}
+
+fn main_option<'a>(alloc: Global) -> Arg<'a>
+    ensures rule { rule_of result ≡ main_rule }
+    ensures local { result.global ≡ false }
+{
+    Arg::new(alloc, "main")
+        .long("main")
+        .value_name("NAME")
+        .help("The main stream, where several could be it")
+}
+
+// The line that the matches of the words are.
+fn line_of(alloc: Global, matches: &ArgMatches) -> Result<Line, LineFault>
+    ensures answered { IfOk result (IsLineIn (subcommand_rows_of matches.now)) }
+    ensures refused { result ≡ Err LineFault.Words
+        → IsCommand (subcommand_rows_of matches.now) → ⊥ }
+{
+    let Some((name, found)) = matches.subcommand() else {
+        return Err(LineFault::Words);
+    };
+    let Some(file) = found.get_str("FILE") else {
+        return Err(LineFault::Words);
+    };
+    let file = owned(alloc, file)?;
+    let main = owned_if_given(alloc, found.get_str("main"))?;
+    match command_of(name, found, main) {
+        Ok(command) => Ok(Line {
+            file: Some(file),
+            command,
+        }),
+        Err(fault) => Err(fault),
+    }
+}
+
+// The command of this name, with what was found for its options.
+fn command_of(name: &str, found: &ArgMatches, main: Option<String>) -> Result<Command, LineFault>
+    ensures answered { IfOk result (λ command. IsCommandOf name.now (rows_of (found_of found.now))
+        command × (main_of command ≡ option_map string_bytes main)) }
+    ensures refused { IfErr result (λ fault. IsKnown name.now (rows_of (found_of found.now)) → ⊥) }
+{
+    match name {
+        "run" => run_of(found, main),
+        "check" => Ok(Command::Check { main }),
+        "plan" => Ok(Command::Plan { main }),
+        "graph" => graph_of(found, main),
+        _ => Err(LineFault::Words),
+    }
+}
+
+// The command `run`, with what was found for its options.
+fn run_of(found: &ArgMatches, main: Option<String>) -> Result<Command, LineFault>
+    ensures answered { IfOk result (λ command. IsCommandOf (codes "run")
+        (rows_of (found_of found.now)) command
+        × (main_of command ≡ option_map string_bytes main)) }
+    ensures refused { IfErr result (λ fault. HasNumbers (rows_of (found_of found.now)) → ⊥) }
+{
+    let rounds = number_of(found, "rounds")?;
+    let workers = number_of(found, "workers")?.unwrap_or(BARE_WORKERS);
+    let ways = number_of(found, "ways")?.unwrap_or(BARE_WAYS);
+    let fuse = number_of(found, "fuse")?.unwrap_or(BARE_FUSE);
+    let stats = is_set(found, "stats");
+    Ok(Command::Run {
+        rounds,
+        workers,
+        ways,
+        fuse,
+        stats,
+        main,
+    })
+}
+
+// The command `graph`, with what was found for its options.
+fn graph_of(found: &ArgMatches, main: Option<String>) -> Result<Command, LineFault>
+    ensures answered { IfOk result (λ command. IsCommandOf (codes "graph")
+        (rows_of (found_of found.now)) command
+        × (main_of command ≡ option_map string_bytes main)) }
+    ensures refused { IfErr result (λ fault. HasSharing (rows_of (found_of found.now)) → ⊥) }
+{
+    let workers = number_of(found, "workers")?;
+    let ways = number_of(found, "ways")?;
+    let fuse = number_of(found, "fuse")?;
+    Ok(Command::Graph {
+        workers,
+        ways,
+        fuse,
+        main,
+    })
+}
+
+// The number that was found for an option, where one is given.
+fn number_of(found: &ArgMatches, option: &str) -> Result<Option<u32>, LineFault>
+    ensures answered { IfOk result (IsNumberOf (one_of option.now (rows_of (found_of found.now)))) }
+    ensures refused { IfErr result (λ fault.
+        IsNumber (one_of option.now (rows_of (found_of found.now))) → ⊥) }
+{
+    match found.try_get_one::<u32>(option) {
+        Ok(number) => Ok(number),
+        Err(_) => Err(LineFault::Words),
+    }
+}
+
+// Whether a flag was found to be set.
+fn is_set(found: &ArgMatches, flag: &str) -> bool
+    ensures { IsFlagOf (one_of flag.now (rows_of (found_of found.now))) result }
+{
+    found.get_one::<bool>(flag).unwrap_or(false)
+}
+
+fn owned_if_given(alloc: Global, text: Option<&str>) -> Result<Option<String>, LineFault>
+    ensures same { IfOk result (λ owned.
+        option_map string_bytes owned ≡ option_map (λ given. given.now) text.entry) }
+    ensures memory { IfErr result (λ fault. fault ≡ LineFault.Memory) }
+{
+    match text {
+        Some(text) => Ok(Some(owned(alloc, text)?)),
+        None => Ok(None),
+    }
+}
+
+fn owned(alloc: Global, text: &str) -> Result<String, LineFault>
+    ensures same { IfOk result (λ owned. string_bytes owned ≡ text.now) }
+    ensures memory { IfErr result (λ fault. fault ≡ LineFault.Memory) }
+{
+    match String::from_str(alloc, text) {
+        Ok(text) => Ok(text),
+        Err(_) => Err(LineFault::Memory),
+    }
+}
+
+fn fault_of(error: &Error) -> LineFault
+    ensures { result ≡ fault_by (kind_of error.now) }
+{
+    match error.kind() {
+        ErrorKind::OutOfMemory => LineFault::Memory,
+        _ => LineFault::Words,
+    }
+}

@@ -1,7 +1,0 @@
-use Rattle.std.proofs.Common.{◌≡◌, drop}
-use Rattle.strc_semantics.specs.Filters.{prework_block, members_of}
-use Rattle.strc_code.proofs.bodies.has_prework.Given as goal
-
-abbrev pub invariant-loop-member : goal.invariant-loop-member
-invariant-loop-member l = prework_block (members_of (drop l.member-index l.members))
-    ≡ prework_block (members_of l.members)

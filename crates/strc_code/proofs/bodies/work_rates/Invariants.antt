@@ -1,7 +1,0 @@
-use Rattle.std.proofs.Common.{◌≡◌, drop}
-use Rattle.strc_semantics.specs.Filters.{work_rates, members_of}
-use Rattle.strc_code.proofs.bodies.work_rates.Given as goal
-
-abbrev pub invariant-loop-member : goal.invariant-loop-member
-invariant-loop-member l = work_rates (members_of (drop l.member-index l.members))
-    ≡ work_rates (members_of l.members)

@@ -1,5 +1,0 @@
-use Rattle.strc_core.proofs.Rows.{emptied_row}
-use Rattle.strc_core.proofs.emptied_parcels.Goals as goal
-
-pub returns : goal.returns
-returns c = emptied_row

@@ -1,6 +1,0 @@
-use Rattle.std.proofs.Common.{◌≡◌, [], map, replicate}
-use Rattle.std.specs.Vec.{vec_items}
-use Rattle.strc_core.proofs.making.words_of.Given as goal
-
-abbrev pub invariant-loop : goal.invariant-loop
-invariant-loop l = map vec_items l.words.items ≡ replicate l.counter []

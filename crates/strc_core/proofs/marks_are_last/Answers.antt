@@ -1,5 +1,0 @@
-use Rattle.strc_core.proofs.Marks.{next_marked}
-use Rattle.strc_core.proofs.marks_are_last.Goals as goal
-
-pub returns : goal.returns
-returns g c = next_marked

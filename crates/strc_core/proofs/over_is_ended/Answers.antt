@@ -1,5 +1,0 @@
-use Rattle.strc_core.proofs.Endings.{all_ended}
-use Rattle.strc_core.proofs.over_is_ended.Goals as goal
-
-pub returns : goal.returns
-returns g c = all_ended

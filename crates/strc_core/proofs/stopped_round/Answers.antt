@@ -1,5 +1,0 @@
-use Rattle.strc_core.proofs.Rows.{stopped_row}
-use Rattle.strc_core.proofs.stopped_round.Goals as goal
-
-pub returns : goal.returns
-returns c = stopped_row

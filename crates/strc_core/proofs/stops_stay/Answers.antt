@@ -1,5 +1,0 @@
-use Rattle.strc_core.proofs.Stopping.{runs_stay_stopped}
-use Rattle.strc_core.proofs.stops_stay.Goals as goal
-
-pub returns : goal.returns
-returns g c = runs_stay_stopped

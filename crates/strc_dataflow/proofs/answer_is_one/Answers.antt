@@ -1,5 +1,0 @@
-use Rattle.strc_dataflow.proofs.Theorem.{stream_one_answer}
-use Rattle.strc_dataflow.proofs.answer_is_one.Goals as goal
-
-pub returns : goal.returns
-returns g c = stream_one_answer

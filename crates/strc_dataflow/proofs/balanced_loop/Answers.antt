@@ -1,5 +1,0 @@
-use Rattle.strc_dataflow.proofs.Computed.{balance_row}
-use Rattle.strc_dataflow.proofs.balanced_loop.Goals as goal
-
-pub returns : goal.returns
-returns c = balance_row

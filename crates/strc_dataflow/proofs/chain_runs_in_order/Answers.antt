@@ -1,5 +1,0 @@
-use Rattle.strc_dataflow.proofs.Theorem.{chain_runs}
-use Rattle.strc_dataflow.proofs.chain_runs_in_order.Goals as goal
-
-pub returns : goal.returns
-returns g c = chain_runs

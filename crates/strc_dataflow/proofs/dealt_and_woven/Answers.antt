@@ -1,5 +1,0 @@
-use Rattle.strc_dataflow.proofs.Computed.{places_row}
-use Rattle.strc_dataflow.proofs.dealt_and_woven.Goals as goal
-
-pub returns : goal.returns
-returns c = places_row

@@ -1,5 +1,0 @@
-use Rattle.strc_dataflow.proofs.Computed.{example_splitters}
-use Rattle.strc_dataflow.proofs.example_splitters.Goals as goal
-
-pub returns : goal.returns
-returns c = example_splitters

@@ -1,5 +1,0 @@
-use Rattle.strc_dataflow.proofs.Computed.{fibonacci_row}
-use Rattle.strc_dataflow.proofs.fibonacci.Goals as goal
-
-pub returns : goal.returns
-returns c = fibonacci_row

@@ -1,6 +1,0 @@
-use Rattle.strc_dataflow.proofs.Fills.{fills_after}
-use Rattle.strc_dataflow.proofs.fills_are_by_counts.Goals as goal
-
-pub returns : goal.returns
-returns g c meaning graph input order now keeps within valid went =
-    fills_after meaning graph input keeps within order valid now went

@@ -1,5 +1,0 @@
-use Rattle.strc_dataflow.proofs.Computed.{matched_row}
-use Rattle.strc_dataflow.proofs.matched_pipeline.Goals as goal
-
-pub returns : goal.returns
-returns c = matched_row

@@ -1,5 +1,0 @@
-use Rattle.strc_dataflow.proofs.Computed.{minimal_row}
-use Rattle.strc_dataflow.proofs.minimal.Goals as goal
-
-pub returns : goal.returns
-returns c = minimal_row

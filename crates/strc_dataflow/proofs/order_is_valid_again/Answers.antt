@@ -1,5 +1,0 @@
-use Rattle.strc_dataflow.proofs.Again.{each_round}
-use Rattle.strc_dataflow.proofs.order_is_valid_again.Goals as goal
-
-pub returns : goal.returns
-returns g c = each_round

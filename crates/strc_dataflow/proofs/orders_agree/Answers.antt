@@ -1,5 +1,0 @@
-use Rattle.strc_dataflow.proofs.Theorem.{orders_agree}
-use Rattle.strc_dataflow.proofs.orders_agree.Goals as goal
-
-pub returns : goal.returns
-returns g c = orders_agree

@@ -1,5 +1,0 @@
-use Rattle.strc_dataflow.proofs.RestartChains.{restarted_chains}
-use Rattle.strc_dataflow.proofs.restart_laws.restarted_chains.Goals as goal
-
-pub returns : goal.returns
-returns g c = restarted_chains

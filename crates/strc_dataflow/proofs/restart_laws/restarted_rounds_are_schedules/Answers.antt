@@ -1,5 +1,0 @@
-use Rattle.strc_dataflow.proofs.Schedules.{restarted_rounds_are_schedules}
-use Rattle.strc_dataflow.proofs.restart_laws.restarted_rounds_are_schedules.Goals as goal
-
-pub returns : goal.returns
-returns g c = restarted_rounds_are_schedules

@@ -1,5 +1,0 @@
-use Rattle.strc_dataflow.proofs.Restart.{runs_alike}
-use Rattle.strc_dataflow.proofs.restart_laws.restarted_runs_alike.Goals as goal
-
-pub returns : goal.returns
-returns g c = runs_alike

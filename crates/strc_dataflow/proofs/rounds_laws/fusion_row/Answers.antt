@@ -1,5 +1,0 @@
-use Rattle.strc_dataflow.proofs.FusionRow.{fusion_row}
-use Rattle.strc_dataflow.proofs.rounds_laws.fusion_row.Goals as goal
-
-pub returns : goal.returns
-returns c = fusion_row

@@ -1,5 +1,0 @@
-use Rattle.strc_dataflow.proofs.Theorem.{stream_run_gives}
-use Rattle.strc_dataflow.proofs.run_gives_answer.Goals as goal
-
-pub returns : goal.returns
-returns g c = stream_run_gives

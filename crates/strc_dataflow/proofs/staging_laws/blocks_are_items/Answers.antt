@@ -1,5 +1,0 @@
-use Rattle.strc_dataflow.proofs.Fits.{blocks_are_items}
-use Rattle.strc_dataflow.proofs.staging_laws.blocks_are_items.Goals as goal
-
-pub returns : goal.returns
-returns g c = blocks_are_items

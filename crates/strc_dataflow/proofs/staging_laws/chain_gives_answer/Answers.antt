@@ -1,5 +1,0 @@
-use Rattle.strc_dataflow.proofs.Chains.{chain_gives_answer}
-use Rattle.strc_dataflow.proofs.staging_laws.chain_gives_answer.Goals as goal
-
-pub returns : goal.returns
-returns g c = chain_gives_answer

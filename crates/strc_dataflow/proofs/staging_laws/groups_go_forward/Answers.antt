@@ -1,5 +1,0 @@
-use Rattle.strc_dataflow.proofs.Groups.{groups_go_forward}
-use Rattle.strc_dataflow.proofs.staging_laws.groups_go_forward.Goals as goal
-
-pub returns : goal.returns
-returns g c = groups_go_forward

@@ -1,5 +1,0 @@
-use Rattle.strc_dataflow.proofs.Rewired.{rewiring_keeps}
-use Rattle.strc_dataflow.proofs.staging_laws.rewiring_keeps.Goals as goal
-
-pub returns : goal.returns
-returns g c = rewiring_keeps

@@ -1,5 +1,0 @@
-use Rattle.strc_dataflow.proofs.Keeping.{stage_goes}
-use Rattle.strc_dataflow.proofs.staging_laws.stage_goes.Goals as goal
-
-pub returns : goal.returns
-returns g c = stage_goes

@@ -1,5 +1,0 @@
-use Rattle.strc_dataflow.proofs.StagedRun.{stages_give_answer}
-use Rattle.strc_dataflow.proofs.staging_laws.stages_give_answer.Goals as goal
-
-pub returns : goal.returns
-returns g c = stages_give_answer

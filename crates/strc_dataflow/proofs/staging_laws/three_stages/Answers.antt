@@ -1,5 +1,0 @@
-use Rattle.strc_dataflow.proofs.Row.{three_stages_row}
-use Rattle.strc_dataflow.proofs.staging_laws.three_stages.Goals as goal
-
-pub returns : goal.returns
-returns c = three_stages_row

@@ -1,5 +1,0 @@
-use Rattle.strc_dataflow.proofs.Computed.{two_faults_row}
-use Rattle.strc_dataflow.proofs.two_faults.Goals as goal
-
-pub returns : goal.returns
-returns c = two_faults_row

@@ -1,5 +1,0 @@
-use Rattle.strc_dataflow.proofs.Computed.{weights_row}
-use Rattle.strc_dataflow.proofs.weights.Goals as goal
-
-pub returns : goal.returns
-returns c = weights_row

@@ -1,0 +1,5 @@
+use Rattle.strc_elab_stream.proofs.Whole.{wires_are_programs}
+use Rattle.strc_elab_stream.proofs.wiring_laws.wires_are_programs.Goals as goal
+
+pub returns : goal.returns
+returns c = wires_are_programs

@@ -1,7 +1,0 @@
--- Where items go, as contracts speak of it.
-use Rattle.strc_flatten.specs.declared.channels.Target.{Target}
-use Rattle.strc_stream.specs.Wires as wires
-
--- a target, by the items that are before what comes
-abbrev pub target_view : Target → wires.Target
-target_view target = record { port = target.port; enqueued = target.enqueued.now }

@@ -1,5 +1,0 @@
-use Rattle.strc_grammar.proofs.Exact.{unambiguous}
-use Rattle.strc_grammar.proofs.laws.one_tree.Goals as goal
-
-pub returns : goal.returns
-returns c = unambiguous

@@ -1,8 +1,0 @@
-// The law of the grammar.
-
-ghost use Rattle.strc_grammar.specs.Grammar.{IsUnambiguous};
-
-/// Two programs never share a spelling.
-pub fn one_tree()
-    ensures { IsUnambiguous }
-{}

@@ -1,8 +1,0 @@
-use Rattle.std.proofs.Common.{take, map, All}
-use Rattle.strc_graph.specs.Graphs.{JoinsPorts}
-use Rattle.strc_graph.specs.NodeView.{node_view, channel_view}
-use Rattle.strc_graph.proofs.condition.join_ports.Given as goal
-
-abbrev pub invariant-loop-channel : goal.invariant-loop-channel
-invariant-loop-channel l =
-    All (JoinsPorts (map node_view l.nodes)) (map channel_view (take l.channel-index l.channels))

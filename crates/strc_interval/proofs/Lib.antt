@@ -1,9 +1,0 @@
-pub mod Narrowing
-pub mod LoopValues
-pub mod IntervalGrowth
-pub mod Growth
-pub mod Walks
-pub mod CalledNames
-pub mod Chains
-pub mod Search
-pub mod HelperLaws

@@ -1,9 +1,0 @@
-use Rattle.std.proofs.Common.{◌≡◌, drop}
-use Rattle.strc_syntax.specs.View.{block_view}
-use Rattle.strc_interval.specs.Loops.{stmts_write}
-use Rattle.strc_interval.proofs.writes.+writes.Given as goal
-
-abbrev pub invariant-block_writes-loop-statement : goal.invariant-block_writes-loop-statement
-invariant-block_writes-loop-statement l =
-    stmts_write l.name (block_view (drop l.statement-index l.block))
-    ≡ stmts_write l.name (block_view l.block)

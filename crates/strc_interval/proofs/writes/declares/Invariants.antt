@@ -1,8 +1,0 @@
-use Rattle.std.proofs.Common.{◌≡◌, drop, map}
-use Rattle.strc_syntax.specs.View.{variable_view}
-use Rattle.strc_interval.specs.Loops.{declares}
-use Rattle.strc_interval.proofs.writes.declares.Given as goal
-
-abbrev pub invariant-loop-variable : goal.invariant-loop-variable
-invariant-loop-variable l = declares l.name (map variable_view (drop l.variable-index l.variables))
-    ≡ declares l.name (map variable_view l.variables)

@@ -1,6 +1,0 @@
-use Rattle.std.proofs.Common.{◌≡◌, map, take}
-use Rattle.strc_launch.specs.Links.{room_of}
-use Rattle.strc_launch.proofs.links.rooms.Given as goal
-
-abbrev pub invariant-loop-link : goal.invariant-loop-link
-invariant-loop-link l = l.rooms.items ≡ map room_of (take l.link-index l.links)

@@ -1,6 +1,0 @@
-pub mod Layouts
-pub mod Emission
-pub mod Written
-pub mod Lines
-pub mod Parts
-pub use Rattle.strc_code.specs.Lowering

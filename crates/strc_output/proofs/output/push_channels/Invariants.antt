@@ -1,9 +1,0 @@
-use Rattle.std.proofs.Common.{◌≡◌, ◌++◌, drop}
-use Rattle.strc_output.specs.Output.{channel_lines}
-use Rattle.strc_output.proofs.output.push_channels.Given as goal
-
--- the text so far and the lines of the channels left are the whole
-abbrev pub invariant-loop-number : goal.invariant-loop-number
-invariant-loop-number l =
-    l.text.items ++ channel_lines l.number (drop l.number l.channels) (drop l.number l.sizes)
-    ≡ l.fn.text.items ++ channel_lines 0 l.channels l.sizes

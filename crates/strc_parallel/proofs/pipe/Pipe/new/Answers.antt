@@ -1,8 +1,0 @@
-use Rattle.strc_parallel.proofs.Piping.{launched_pipe}
-use Rattle.strc_parallel.proofs.pipe.Pipe.new.Goals as goal
-
-pub returns-clause-state : goal.returns-clause-state
-returns-clause-state c =
-    launched_pipe c.args.stages.plan c.args.input.now c.args.rounds
-    c.args.stages.workers c.in_ok-launched.launched c.in_ok-state_of.field-0
-    c.in_ok-launched.ensures c.in_ok-state_of.ensures

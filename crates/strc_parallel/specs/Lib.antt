@@ -1,7 +1,0 @@
-pub mod Telling
-pub mod Answers
-pub mod Naming
-pub mod Alone
-pub mod Parting
-pub mod Running
-pub mod Piped

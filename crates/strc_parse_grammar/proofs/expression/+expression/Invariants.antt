@@ -1,0 +1,4 @@
+use Rattle.strc_parse_grammar.proofs.expression.+expression.Given as goal
+
+abbrev pub decreases-expression : goal.decreases-expression
+decreases-expression l = l.depth

@@ -1,7 +1,0 @@
-use Rattle.std.proofs.Common.{◌≡◌, drop}
-use Rattle.strc_places.specs.Streams.{child_in_block}
-use Rattle.strc_places.proofs.composites.+child.Given as goal
-
-abbrev pub invariant-child_in_block-loop-statement : goal.invariant-child_in_block-loop-statement
-invariant-child_in_block-loop-statement l = child_in_block l.at (drop l.statement-index l.block)
-    ≡ child_in_block l.at l.block

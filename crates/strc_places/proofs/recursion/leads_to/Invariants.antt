@@ -1,8 +1,0 @@
-use Rattle.std.proofs.Common.{All}
-use Rattle.std.specs.Option.{option_map}
-use Rattle.strc_places.specs.Streams.{LeadsTo}
-use Rattle.strc_places.proofs.recursion.leads_to.Given as goal
-
-abbrev pub invariant-loop-number : goal.invariant-loop-number
-invariant-loop-number l =
-    All (λ next. LeadsTo (option_map (λ p. p.now) l.known.program) l.name next.now) l.reached.items

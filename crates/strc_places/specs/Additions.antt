@@ -1,7 +1,0 @@
--- Statements that add declared streams, as they are listed.
-use Rattle.std.specs.Prelude.{ℕ, List}
-use Rattle.strc_base.specs.declared.place.Span.{Span}
-use Rattle.strc_places.specs.declared.recursion.Addition.{Addition}
-
-abbrev pub addition_view : Addition → Span × List ℕ
-addition_view addition = (addition.place, addition.name.now)

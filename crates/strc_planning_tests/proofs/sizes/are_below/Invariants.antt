@@ -1,5 +1,0 @@
-use Rattle.std.proofs.Common.{◌<◌, take, All}
-use Rattle.strc_planning_tests.proofs.sizes.are_below.Given as goal
-
-abbrev pub invariant-loop-node : goal.invariant-loop-node
-invariant-loop-node l = All (λ node. node < l.size) (take l.node-index l.nodes)

@@ -1,6 +1,0 @@
-use Rattle.strc_rings.specs.Circuits.{circuit_view}
-use Rattle.strc_runner.specs.Running.{IsMachine}
-use Rattle.strc_planning_tests.proofs.splits.written.Given as goal
-
-abbrev pub invariant-loop-round : goal.invariant-loop-round
-invariant-loop-round l = IsMachine (circuit_view l.circuit) l.machine

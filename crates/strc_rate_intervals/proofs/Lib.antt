@@ -1,0 +1,3 @@
+pub mod Narrowing
+pub mod LoopValues
+pub mod IntervalGrowth

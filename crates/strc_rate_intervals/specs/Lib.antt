@@ -1,0 +1,4 @@
+pub mod Constant
+pub mod Loops
+pub mod Intervals
+pub mod Seen

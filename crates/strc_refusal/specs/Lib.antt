@@ -1,4 +1,0 @@
-pub mod Placing
-pub mod Reports
-pub mod Sentences
-pub mod Tapes

@@ -1,6 +1,0 @@
-use Rattle.std.proofs.Common.{◌≡◌, map, take}
-use Rattle.strc_rings.specs.Circuits.{source_of}
-use Rattle.strc_rings.proofs.circuit.sources_of.Given as goal
-
-abbrev pub invariant-loop-channel : goal.invariant-loop-channel
-invariant-loop-channel l = l.ends.items ≡ map source_of (take l.channel-index l.channels)

@@ -1,6 +1,0 @@
-use Rattle.std.proofs.Common.{◌≡◌, map, take}
-use Rattle.strc_rings.specs.Circuits.{target_of}
-use Rattle.strc_rings.proofs.circuit.targets_of.Given as goal
-
-abbrev pub invariant-loop-channel : goal.invariant-loop-channel
-invariant-loop-channel l = l.ends.items ≡ map target_of (take l.channel-index l.channels)

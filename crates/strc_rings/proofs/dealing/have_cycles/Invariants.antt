@@ -1,8 +1,0 @@
-use Rattle.std.proofs.Common.{ℕ, ◌<◌, ◌≤◌, ◌*◌, length}
-use Rattle.std.specs.Prelude.{slice_index}
-use Rattle.strc_admissible.specs.Rings.{at_port, items_at}
-use Rattle.strc_rings.proofs.dealing.have_cycles.Given as goal
-
-abbrev pub invariant-loop-port : goal.invariant-loop-port
-invariant-loop-port l = (port : ℕ) → port < l.port
-    → l.count * slice_index l.weights port ≤ length (items_at l.rings (at_port l.inputs port))

@@ -1,6 +1,0 @@
-use Rattle.strc_rings.proofs.Turns.{Spreads}
-use Rattle.strc_rings.proofs.dealing.spread.Given as goal
-
-abbrev pub invariant-loop-port : goal.invariant-loop-port
-invariant-loop-port l = Spreads l.weights l.outputs l.cycles.count l.cycles.length l.items l.left
-    l.port l.fn.rings l.rings

@@ -1,5 +1,0 @@
-use Rattle.strc_rings.proofs.PartCircuits.{parts_are_part_circuits}
-use Rattle.strc_rings.proofs.laws.parts_are_part_circuits.Goals as goal
-
-pub returns : goal.returns
-returns c = parts_are_part_circuits

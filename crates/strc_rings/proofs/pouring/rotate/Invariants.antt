@@ -1,8 +1,0 @@
-use Rattle.std.proofs.Common.{◌≡◌, ◌++◌, drop, take}
-use Rattle.circular_buffer.specs.Buffer.{buffer}
-use Rattle.strc_rings.proofs.pouring.rotate.Given as goal
-
--- the first items so far are behind the others
-abbrev pub invariant-loop-turn : goal.invariant-loop-turn
-invariant-loop-turn l = l.ring
-    ≡ buffer (drop l._turn l.fn.ring.items ++ take l._turn l.fn.ring.items) l.fn.ring.capacity

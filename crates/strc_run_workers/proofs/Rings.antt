@@ -1,0 +1,76 @@
+-- A ring that has begun is run to an end of its start.
+use Rattle.std.proofs.Common.{◌≡◌, sym, ap, subst, Bool, map, IfOk, IfErr, Ok, Err}
+use Rattle.std.proofs.Common.{Result}
+use Rattle.strc_sched_outcome.specs.declared.outcome.Outcome.{Outcome}
+use Rattle.strc_sched_outcome.specs.declared.run_refusal.RunRefusal.{RunRefusal}
+use Rattle.strc_sched_outcome.specs.declared.run_refusal.RunRefusal.TheVariants as refused
+use Rattle.strc_stage_core.specs.Actors.{Step, Collects, Collector}
+use Rattle.strc_stage_core.specs.States.{IsStart}
+use Rattle.strc_stage_core.specs.declared.stop.Stop.{Stop}
+use Rattle.strc_stage_plan.specs.Plans.{PlanParts}
+use Rattle.strc_stage_steps.specs.Steps.{Gathered, stage_work}
+use Rattle.strc_stage_steps.specs.Pipes.{Beginning, IsStateOf}
+use Rattle.strc_run_links.specs.Cores as cores
+use Rattle.strc_run_links.specs.States.{IsRing}
+use Rattle.strc_run_links.specs.declared.shapes.Parts.{Parts}
+use Rattle.strc_run_links.specs.declared.shapes.Start.{Start}
+use Rattle.strc_run_links.proofs.Cores.{ring_state}
+use Rattle.strc_stage_steps.specs.Collectors.{sees, total_of}
+use Rattle.strc_stage_steps.specs.Stages.{see}
+use Rattle.strc_stage_steps.specs.declared.collector.CollectorParts.{CollectorParts}
+use Rattle.strc_stage_steps.specs.declared.stage.StageParts.{StageParts}
+use Rattle.strc_stage_cut.specs.Launches.{start_of}
+use Rattle.strc_stage_cut.specs.declared.stage_ring.Ring.{Ring}
+use Rattle.strc_stage.specs.Running.{EndsSo, HasEnded, LacksMeans}
+use Rattle.strc_run_workers.specs.Leftovers.{Drives}
+
+-- A ring's start, by whether its actors are done.
+abbrev pub start_done : Ring → Bool → Beginning
+start_done ring done = record {
+  stages = map see ring.stages.items;
+  free = ring.free.items;
+  collector = sees ring.collector;
+  done = done;
+}
+
+module _ (plan : PlanParts) (ring : Ring) (parts : CollectorParts) where
+  pub driven_ends : Drives (start_of ring) parts → (outcome : Outcome)
+      → EndsSo plan (total_of parts) parts.stop outcome → HasEnded plan (start_of ring) outcome
+  driven_ends (core, state, over, collected) outcome ends = (
+    core,
+    state,
+    over,
+    subst (λ (c : Collector Gathered Stop). EndsSo plan c.total c.stop outcome)
+        (sym collected) ends,
+  )
+
+  pub told_ends : Drives (start_of ring) parts → (result : Result Outcome RunRefusal)
+      → IfOk result (EndsSo plan (total_of parts) parts.stop)
+      → IfOk result (HasEnded plan (start_of ring))
+  told_ends drives (Ok outcome) ends = driven_ends drives outcome ends
+  told_ends drives (Err refusal) ends = tt
+
+-- Where only memory may lack, means may.
+pub only_memory : (result : Result Outcome RunRefusal)
+    → IfErr result (λ refusal. refusal ≡ refused.NoMemory) → IfErr result LacksMeans
+only_memory (Ok outcome) is = tt
+only_memory (Err refusal) is = subst LacksMeans (sym is) tt
+
+-- What a ring's workers begin with.
+abbrev pub seat_of : Ring → Start StageParts CollectorParts
+seat_of ring = record { stages = ring.stages; free = ring.free; collector = ring.collector }
+
+module _ (ring : Ring) (begun : IsStart (start_of ring)) where
+  seen_start : cores.start_of see sees (seat_of ring) ≡ start_of ring
+  unfolding cores.start_of
+  seen_start = ap (start_done ring) begun.finished_is
+
+  -- What workers leave of it is a state of its start.
+  pub left_state : (ended : Parts StageParts CollectorParts)
+      → IsRing (λ s p t q. Step stage_work (see s) p (see t) q)
+      (λ c p d q. Collects stage_work (sees c) p (sees d) q) (seat_of ring) ended
+      → IsStateOf (start_of ring) (cores.core_of_parts see sees ended)
+  left_state ended is =
+      subst (λ start. IsStateOf start (cores.core_of_parts see sees ended)) seen_start
+      (ring_state stage_work _ see (λ s p t q does. does) _ sees (λ c p d q gathers. gathers)
+      (seat_of ring) ended is (subst IsStart (sym seen_start) begun))

@@ -1,5 +1,0 @@
-use Rattle.strc_runner.proofs.Wanting.{quiet_order}
-use Rattle.strc_runner.proofs.laws.quiet_orders_want_no_memory.Goals as goal
-
-pub returns : goal.returns
-returns c = quiet_order

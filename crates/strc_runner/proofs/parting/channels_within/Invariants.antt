@@ -1,7 +1,0 @@
-use Rattle.std.proofs.Common.{◌≡◌, map, take}
-use Rattle.strc_runner.specs.Parts.{ends_within}
-use Rattle.strc_runner.proofs.parting.channels_within.Given as goal
-
-abbrev pub invariant-loop-channel : goal.invariant-loop-channel
-invariant-loop-channel l =
-    l.marks.items ≡ map (ends_within l.first l.next) (take l.channel-index l.channels)

@@ -1,7 +1,0 @@
-use Rattle.std.proofs.Common.{◌≡◌, take}
-use Rattle.strc_schedule.specs.Greedy.{firings_of}
-use Rattle.strc_schedule.specs.Order.{firing_count}
-use Rattle.strc_sched.proofs.reading.firings_of.Given as goal
-
-abbrev pub invariant-loop-unit : goal.invariant-loop-unit
-invariant-loop-unit l = l.firings ≡ firing_count (firings_of (take l.unit-index l.units)) l.node

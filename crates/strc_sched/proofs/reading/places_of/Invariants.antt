@@ -1,9 +1,0 @@
-use Rattle.std.proofs.Common.{◌≡◌, ◌≤◌, take}
-use Rattle.strc_schedule.specs.Order.{firing_count}
-use Rattle.strc_sched.proofs.reading.places_of.Given as goal
-
-abbrev pub invariant-loop-other : goal.invariant-loop-other
-invariant-loop-other l = record {
-  places : l.places ≡ firing_count (take l.other-index l.nodes) l.node;
-  few : l.places ≤ l.other-index;
-}

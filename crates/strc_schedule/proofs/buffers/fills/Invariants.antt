@@ -1,8 +1,0 @@
-use Rattle.std.proofs.Common.{◌≡◌, take, map}
-use Rattle.strc_balance.specs.Balance.{count_at}
-use Rattle.strc_schedule.specs.Firings.{fill}
-use Rattle.strc_schedule.proofs.buffers.fills.Given as goal
-
-abbrev pub invariant-loop-rates : goal.invariant-loop-rates
-invariant-loop-rates l = l.fills.items
-    ≡ map (λ rates. fill rates (count_at l.counts)) (take l.rates-index l.channels)

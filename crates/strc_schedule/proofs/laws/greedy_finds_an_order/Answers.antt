@@ -1,5 +1,0 @@
-use Rattle.strc_schedule.proofs.Deciding.{finds_an_order}
-use Rattle.strc_schedule.proofs.laws.greedy_finds_an_order.Goals as goal
-
-pub returns : goal.returns
-returns c = finds_an_order

@@ -1,5 +1,0 @@
-use Rattle.strc_schedule.proofs.GoingOn.{limits_go_on}
-use Rattle.strc_schedule.proofs.laws.limits_go_on.Goals as goal
-
-pub returns : goal.returns
-returns c = limits_go_on

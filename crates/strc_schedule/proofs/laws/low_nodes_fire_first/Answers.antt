@@ -1,5 +1,0 @@
-use Rattle.strc_schedule.proofs.Ranges.{low_nodes_fire_first}
-use Rattle.strc_schedule.proofs.laws.low_nodes_fire_first.Goals as goal
-
-pub returns : goal.returns
-returns c = low_nodes_fire_first

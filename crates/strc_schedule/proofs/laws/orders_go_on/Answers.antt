@@ -1,5 +1,0 @@
-use Rattle.strc_schedule.proofs.GoingOn.{orders_go_on}
-use Rattle.strc_schedule.proofs.laws.orders_go_on.Goals as goal
-
-pub returns : goal.returns
-returns c = orders_go_on

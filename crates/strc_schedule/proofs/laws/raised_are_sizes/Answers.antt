@@ -1,5 +1,0 @@
-use Rattle.strc_schedule.proofs.Runnable.{raised_are_sizes}
-use Rattle.strc_schedule.proofs.laws.raised_are_sizes.Goals as goal
-
-pub returns : goal.returns
-returns c = raised_are_sizes

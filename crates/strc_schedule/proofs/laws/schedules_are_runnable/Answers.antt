@@ -1,5 +1,0 @@
-use Rattle.strc_schedule.proofs.Runnable.{schedules_are_runnable}
-use Rattle.strc_schedule.proofs.laws.schedules_are_runnable.Goals as goal
-
-pub returns : goal.returns
-returns c = schedules_are_runnable

@@ -1,5 +1,0 @@
-use Rattle.strc_schedule.proofs.Continuing.{RaisedFirst}
-use Rattle.strc_schedule.proofs.sizing.peaks_from.Given as goal
-
-abbrev pub invariant-loop-channel : goal.invariant-loop-channel
-invariant-loop-channel l = RaisedFirst l.network.channels l.before l.peaks.items l.channel

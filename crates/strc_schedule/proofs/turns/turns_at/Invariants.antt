@@ -1,6 +1,0 @@
-use Rattle.strc_balance.specs.Balance.{count_at}
-use Rattle.strc_schedule.proofs.Turning.{Turns}
-use Rattle.strc_schedule.proofs.turns.turns_at.Given as goal
-
-abbrev pub invariant-loop-number : goal.invariant-loop-number
-invariant-loop-number l = Turns l.network (count_at l.counts) l.node l.limit l.turns l.number-index

@@ -1,5 +1,0 @@
-use Rattle.strc_stage.proofs.Row.{bounds_round_a_loop}
-use Rattle.strc_stage.proofs.cut_laws.bounds_round_a_loop.Goals as goal
-
-pub returns : goal.returns
-returns c = bounds_round_a_loop

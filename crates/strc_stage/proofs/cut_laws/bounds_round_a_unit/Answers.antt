@@ -1,5 +1,0 @@
-use Rattle.strc_stage.proofs.Row.{bounds_round_a_unit}
-use Rattle.strc_stage.proofs.cut_laws.bounds_round_a_unit.Goals as goal
-
-pub returns : goal.returns
-returns c = bounds_round_a_unit

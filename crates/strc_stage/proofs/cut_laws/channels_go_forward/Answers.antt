@@ -1,5 +1,0 @@
-use Rattle.strc_stage.proofs.Forward.{channels_go_forward}
-use Rattle.strc_stage.proofs.cut_laws.channels_go_forward.Goals as goal
-
-pub returns : goal.returns
-returns c = channels_go_forward

@@ -1,5 +1,0 @@
-use Rattle.strc_stage.proofs.Row.{cut_round_a_loop}
-use Rattle.strc_stage.proofs.cut_laws.cut_round_a_loop.Goals as goal
-
-pub returns : goal.returns
-returns c = cut_round_a_loop

@@ -1,5 +1,0 @@
-use Rattle.strc_stage.proofs.StageUnits.{segments_are_units}
-use Rattle.strc_stage.proofs.cut_laws.segments_are_units.Goals as goal
-
-pub returns : goal.returns
-returns c = segments_are_units

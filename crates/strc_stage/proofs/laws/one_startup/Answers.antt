@@ -1,5 +1,0 @@
-use Rattle.strc_stage.proofs.Exclusion.{one_startup}
-use Rattle.strc_stage.proofs.laws.one_startup.Goals as goal
-
-pub returns : goal.returns
-returns c = one_startup

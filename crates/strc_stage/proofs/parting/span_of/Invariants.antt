@@ -1,6 +1,0 @@
-use Rattle.std.specs.Prelude.{suc, take}
-use Rattle.strc_stage.specs.Spans.{IsSpanOf}
-use Rattle.strc_stage.proofs.parting.span_of.Given as goal
-
-abbrev pub invariant-loop-node : goal.invariant-loop-node
-invariant-loop-node l = IsSpanOf (take (suc l.node-index) l.nodes) l.span

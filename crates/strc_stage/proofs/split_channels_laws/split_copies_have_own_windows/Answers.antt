@@ -1,5 +1,0 @@
-use Rattle.strc_stage.proofs.ByChannels.{split_copies_have_own_windows}
-use Rattle.strc_stage.proofs.split_channels_laws.split_copies_have_own_windows.Goals as goal
-
-pub returns : goal.returns
-returns c = split_copies_have_own_windows

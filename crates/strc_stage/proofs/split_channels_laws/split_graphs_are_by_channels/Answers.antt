@@ -1,5 +1,0 @@
-use Rattle.strc_stage.proofs.ByChannels.{split_graphs_are_by_channels}
-use Rattle.strc_stage.proofs.split_channels_laws.split_graphs_are_by_channels.Goals as goal
-
-pub returns : goal.returns
-returns c = split_graphs_are_by_channels

@@ -1,5 +1,0 @@
-use Rattle.strc_stage.proofs.Runs.{answers_kept}
-use Rattle.strc_stage.proofs.split_laws.fission_keeps_answers.Goals as goal
-
-pub returns : goal.returns
-returns c = answers_kept

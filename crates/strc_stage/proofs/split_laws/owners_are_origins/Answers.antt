@@ -1,5 +1,0 @@
-use Rattle.strc_stage.proofs.Owners.{owners_have_origins}
-use Rattle.strc_stage.proofs.split_laws.owners_are_origins.Goals as goal
-
-pub returns : goal.returns
-returns c = owners_have_origins

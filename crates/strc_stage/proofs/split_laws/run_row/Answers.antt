@@ -1,5 +1,0 @@
-use Rattle.strc_stage.proofs.RunRows as rows
-use Rattle.strc_stage.proofs.split_laws.run_row.Goals as goal
-
-pub returns : goal.returns
-returns c = rows.run_row

@@ -1,5 +1,0 @@
-use Rattle.strc_stage.proofs.Fused.{graphs_resume}
-use Rattle.strc_stage.proofs.split_stages_laws.split_graphs_resume.Goals as goal
-
-pub returns : goal.returns
-returns c = graphs_resume

@@ -1,5 +1,0 @@
-use Rattle.strc_stage.proofs.Fused.{round_is_restarted_order}
-use Rattle.strc_stage.proofs.split_stages_laws.split_round_is_restarted_order.Goals as goal
-
-pub returns : goal.returns
-returns c = round_is_restarted_order

@@ -1,5 +1,0 @@
-use Rattle.strc_stage.proofs.Repeats.{rounds_repeat}
-use Rattle.strc_stage.proofs.split_stages_laws.split_rounds_repeat.Goals as goal
-
-pub returns : goal.returns
-returns c = rounds_repeat

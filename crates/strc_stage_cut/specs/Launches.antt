@@ -1,0 +1,60 @@
+-- What start-up of a plan comes to.
+use Rattle.std.specs.Prelude.{◌≡◌, ℕ, suc, false, ℤ, List, map}
+use Rattle.strc_sched_laws.specs.Machine.{CircuitView, MachineView}
+use Rattle.strc_stage_core.specs.States.{Start}
+use Rattle.strc_stage_plan.specs.Bounds.{stage_bounds, stage_count}
+use Rattle.strc_fuse.specs.Units.{round_units}
+use Rattle.strc_stage_core.specs.declared.stop as parcels
+use Rattle.strc_stage_core.specs.Parcels.{Load}
+use Rattle.strc_stage_plan.specs.Plans.{PlanParts, transformed_of}
+use Rattle.strc_stage_steps.specs.Beginnings.{IsBeginning}
+use Rattle.strc_stage_steps.specs.Plans.{IsCut, running_of}
+use Rattle.strc_stage_steps.specs.Steps.{StageState, Gathered}
+use Rattle.strc_stage_steps.specs.Collectors.{sees}
+use Rattle.strc_stage_steps.specs.Stages.{see}
+use Rattle.strc_stage_cut.specs.Bounds.{bound_in, last_of}
+use Rattle.strc_stage_cut.specs.Made.{AreMade}
+use Rattle.strc_stage_cut.specs.Startups.{HasEnded, HasFaulted}
+use Rattle.strc_stage_cut.specs.declared.stage_ring.Launch.{Launch}
+use Rattle.strc_stage_cut.specs.declared.stage_ring.Launch.TheVariants as launched
+use Rattle.strc_stage_cut.specs.declared.stage_ring.Ring.{Ring}
+
+-- A ring as the definitions see it.
+abbrev pub start_of : Ring → Start StageState Load parcels.Stop.Stop Gathered
+start_of ring = record {
+  stages = map see ring.stages.items;
+  free = ring.free.items;
+  collector = sees ring.collector;
+  done = false;
+}
+
+-- The bounds of the stages that so many workers share.
+abbrev pub bounds_of : PlanParts → (workers : ℕ) → List ℕ
+bounds_of plan workers =
+    stage_bounds (transformed_of plan).outer_loops (round_units plan.split.schedule.round) workers
+
+-- A ring of the stages of a plan, one for each worker or each group of nodes, before any event,
+-- with what start-up leaves.
+pub record IsRingOf (plan : PlanParts) (circuit : CircuitView) (started : MachineView)
+    (rounds workers : ℕ) (ring : Ring) : Type 0 where
+  pub count : suc (last_of (bounds_of plan workers))
+      ≡ stage_count (transformed_of plan).outer_loops (round_units plan.split.schedule.round)
+      workers
+  pub cut : IsCut plan (bound_in (bounds_of plan workers))
+      (suc (last_of (bounds_of plan workers)))
+  pub beginning : IsBeginning (running_of plan) (bound_in (bounds_of plan workers))
+      (last_of (bounds_of plan workers)) circuit started rounds (start_of ring)
+  pub made : AreMade plan (bounds_of plan workers) circuit started rounds ring.stages.items
+
+-- Start-up went on to its end, and the ring begins with what it left.
+pub record HasBegun (plan : PlanParts) (input : List ℤ) (rounds workers : ℕ) (ring : Ring) : Type 0
+  where
+    pub circuit : CircuitView
+    pub started : MachineView
+    pub startup : HasEnded plan input circuit started
+    pub ring_is : IsRingOf plan circuit started rounds workers ring
+
+abbrev pub IsLaunch : PlanParts → (input : List ℤ) → (rounds workers : ℕ) → Launch → Type 0
+IsLaunch plan input rounds workers (launched.Going ring) = HasBegun plan input rounds workers ring
+IsLaunch plan input rounds workers (launched.Faulted node firing cause) =
+    HasFaulted plan input node firing cause

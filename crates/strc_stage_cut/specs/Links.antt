@@ -1,0 +1,64 @@
+-- Channels by the stages that they join.
+use Rattle.std.specs.Prelude.{ℕ, suc, Bool, ◌&&◌, not, eqb, nat_lt, nat_le, List, [], ◌∷◌, map}
+use Rattle.std.specs.Prelude.{if◌then◌else◌}
+use Rattle.strc_elab_graph.specs.Graphs.{Channel}
+use Rattle.strc_stage_plan.specs.Plans.{PlanParts, transformed_of}
+use Rattle.strc_elab_dataflow.specs.Ranges.{stage_within}
+use Rattle.strc_stage_steps.specs.Runnings.{round_pushes}
+use Rattle.strc_stage_steps.specs.Plans.{running_of}
+use Rattle.strc_stage_steps.specs.CrossingBlocks.{raised}
+use Rattle.strc_stage_steps.specs.declared.crossing_items.Crossing.{Crossing}
+use Rattle.strc_stage_steps.specs.declared.stage.Block.{Block}
+use Rattle.strc_stage_cut.specs.Bounds.{bound_in, last_of}
+use Rattle.strc_stage_cut.specs.declared.links.Link.{Link}
+use Rattle.strc_stage_cut.specs.declared.links.Side.{Side}
+use Rattle.strc_stage_cut.specs.declared.links.Side.TheVariants as side
+
+abbrev pub link_of : PlanParts → (bounds : List ℕ) → Channel → Link
+link_of plan bounds channel = record {
+  from = stage_within (bound_in bounds) (last_of bounds) channel.source.node;
+  to = stage_within (bound_in bounds) (last_of bounds) channel.target.node;
+  room = round_pushes (running_of plan) channel;
+}
+
+abbrev pub links_of : PlanParts → (bounds : List ℕ) → List Link
+links_of plan bounds = map (link_of plan bounds) (transformed_of plan).channels
+
+abbrev pub room_of : Link → ℕ
+room_of link = link.room
+
+-- Its ends lie in different stages.
+abbrev pub is_crossing : Link → Bool
+is_crossing link = not (eqb link.from link.to)
+
+-- The stage at the end that is at a side.
+abbrev pub end_at : Side → Link → ℕ
+end_at side.Entering link = link.to
+end_at side.Leaving link = link.from
+
+abbrev pub is_picked : Side → (stage : ℕ) → Link → Bool
+is_picked side stage link = is_crossing link && eqb (end_at side link) stage
+
+-- The channels that cross at a side of a stage, each with its block; the first of these has this
+-- number, and this block if it crosses.
+abbrev pub crossings_in : Side → (stage block ring : ℕ) → List Link → List Crossing
+crossings_in side stage block ring [] = []
+crossings_in side stage block ring (link ∷ links) =
+    if is_picked side stage link then
+    record { block = block; ring = ring }
+    ∷ crossings_in side stage (raised (is_crossing link) block) (suc ring) links
+    else crossings_in side stage (raised (is_crossing link) block) (suc ring) links
+
+-- The block of a channel before a stage holds the items of a round from the stage after that where
+-- the channel begins, up to that where it ends.
+abbrev pub block_before : (stage : ℕ) → Link → Block
+block_before stage link = record {
+  room = link.room;
+  held = nat_lt link.from stage && nat_le stage link.to;
+}
+
+abbrev pub blocks_in : (stage : ℕ) → List Link → List Block
+blocks_in stage [] = []
+blocks_in stage (link ∷ links) =
+    if is_crossing link then block_before stage link ∷ blocks_in stage links
+    else blocks_in stage links

@@ -1,0 +1,112 @@
+// A plan, cut into stages.
+
+ghost use Rattle.std.specs.Prelude.{◌≡◌, ◌<◌, ◌≤◌, ◌-◌, IfOk, length, map};
+ghost use Rattle.strc_balance.specs.Balance.{count_at};
+ghost use Rattle.strc_elab_graph.specs.NodeView.{channel_view};
+ghost use Rattle.strc_elab_dataflow.specs.Ranges.{stage_within};
+ghost use Rattle.strc_stage_cut.specs.Bounds.{bound_in, last_of};
+ghost use Rattle.strc_stage_cut.specs.Cuts.{IsCutting};
+ghost use Rattle.strc_stage_cut.specs.Launches.{bounds_of};
+ghost use Rattle.strc_stage_cut.specs.Links as spec;
+ghost use Rattle.strc_stage_steps.specs.Plans.{running_of};
+
+use crate::links::{Link, rooms};
+use crate::pushes::round_pushes;
+use crate::round_firings::firing_counts;
+use crate::tapes::tape_list;
+use std::alloc::Global;
+use strc_elab_graph::graph::Channel;
+use strc_lex_names::memory::NoMemory;
+use strc_stage_plan::bounds::stage_bounds;
+use strc_stage_plan::plan::Plan;
+
+/// A plan, cut into stages.
+#[derive(Drop)]
+pub(crate) struct Cut {
+    /// The node with which each stage begins, and the number of nodes.
+    pub bounds: Vec<usize>,
+    /// The channels, by the stages that they join.
+    pub links: Vec<Link>,
+    /// How many items each channel's source pushes in a round.
+    pub rooms: Vec<u32>,
+    /// The nodes that give words.
+    pub tapes: Vec<usize>,
+}
+
+impl Cut {
+    /// The stages that so many workers share.
+    pub(crate) fn new(alloc: Global, plan: &Plan, workers: u32) -> Result<Cut, NoMemory>
+        requires workers { 0 < workers }
+        requires nodes { 0 < length plan.now.graph.nodes }
+        ensures cut { IfOk result (IsCutting plan.now) }
+        ensures bounds { IfOk result (λ cut. cut.bounds.items ≡ bounds_of plan.now workers) }
+    {
+        plan.known();
+        let graph = plan.transformed_graph();
+        let round = plan.transformed_schedule().round();
+        let bounds = stage_bounds(alloc, graph, round, workers)?;
+        let counts = firing_counts(alloc, graph.nodes().len(), round)?;
+        let links = links_of(alloc, plan, &counts, &bounds)?;
+        let rooms = rooms(alloc, &links)?;
+        let tapes = tape_list(alloc, graph.nodes())?;
+        Ok(Cut {
+            bounds,
+            links,
+            rooms,
+            tapes,
+        })
+    }
+}
+
+/// The channels of a plan, by the stages that they join.
+fn links_of(
+    alloc: Global,
+    plan: &Plan,
+    counts: &[u32],
+    bounds: &[usize],
+) -> Result<Vec<Link>, NoMemory>
+    requires bounds { 2 ≤ length bounds.now }
+    requires counts { count_at counts.now ≡ (running_of plan.now).counts }
+    ensures { IfOk result (λ links. links.items ≡ spec.links_of plan.now bounds.now) }
+{
+    let channels = plan.transformed_graph().channels();
+    let mut links = Vec::with_capacity(alloc, channels.len())?;
+    for channel in channels {
+        links.push(link_of(plan, counts, bounds, channel)?)?;
+    }
+    Ok(links)
+}
+
+/// A channel, by the stages that it joins.
+fn link_of(
+    plan: &Plan,
+    counts: &[u32],
+    bounds: &[usize],
+    channel: &Channel,
+) -> Result<Link, NoMemory>
+    requires bounds { 2 ≤ length bounds.now }
+    requires counts { count_at counts.now ≡ (running_of plan.now).counts }
+    ensures { IfOk result (λ link. link
+        ≡ spec.link_of plan.now bounds.now (channel_view channel.now)) }
+{
+    let nodes = plan.transformed_graph().nodes();
+    Ok(Link {
+        from: stage_at(bounds, channel.source.node as usize),
+        to: stage_at(bounds, channel.target.node as usize),
+        room: round_pushes(nodes, counts, channel.source)?,
+    })
+}
+
+/// The stage of a node: the last that begins at it or before it.
+fn stage_at(bounds: &[usize], node: usize) -> usize
+    requires { 2 ≤ length bounds.now }
+    ensures { result ≡ stage_within (bound_in bounds.now) (last_of bounds.now) node }
+{
+    let mut found = 0;
+    for stage in 0..bounds.len() - 2 {
+        if bounds[stage + 1] <= node {
+            found = stage + 1;
+        }
+    }
+    found
+}

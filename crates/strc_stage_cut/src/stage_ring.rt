@@ -1,0 +1,74 @@
+// The ring of stages that start-up leaves.
+
+ghost use Rattle.std.specs.Prelude.{◌≡◌, ◌<◌, IfOk, length};
+ghost use Rattle.strc_elab_graph.specs.NodeView.{graph_view};
+ghost use Rattle.strc_sched_laws.specs.Circuits.{IsCircuit};
+ghost use Rattle.strc_sched_rings.specs.Circuits.{circuit_view, IsReady};
+ghost use Rattle.strc_sched_machine.specs.Running.{IsMachine, machine_view};
+ghost use Rattle.strc_stage_cut.specs.Launches.{IsRingOf};
+ghost use Rattle.strc_stage_cut.specs.Stages.{AreStages};
+
+use crate::free_parcels::free_parcels;
+use crate::plan_cut::Cut;
+use crate::stage_parts::stages_of;
+use crate::tapes::tape_words;
+use std::alloc::Global;
+use strc_lex_names::memory::NoMemory;
+use strc_sched_machine::laws::whole_machines_hold;
+use strc_sched_machine::machine::Machine;
+use strc_sched_rings::circuit::Circuit;
+use strc_stage_core::Parcel;
+use strc_stage_plan::plan::Plan;
+use strc_stage_steps::{Collector, Stage};
+use strc_work_meaning::fault::Cause;
+
+/// The stages of a plan, the free parcels and the collector.
+#[derive(Drop)]
+pub struct Ring {
+    pub stages: Vec<Stage>,
+    pub free: Vec<Parcel>,
+    pub collector: Collector,
+}
+
+/// What start-up of a plan comes to: the ring of stages that it leaves, or a fault.
+#[derive(Drop)]
+pub enum Launch {
+    Going(Ring),
+    Faulted {
+        node: u32,
+        firing: u64,
+        cause: Cause,
+    },
+}
+
+/// The ring of so many workers, with the machine that start-up leaves.
+pub(crate) fn ring_of(
+    alloc: Global,
+    plan: &Plan,
+    cut: &Cut,
+    circuit: &Circuit,
+    machine: Machine,
+    rounds: u32,
+    workers: u32,
+) -> Result<Ring, NoMemory>
+    requires stages { AreStages plan.now workers cut.now }
+    requires rounds { 0 < rounds }
+    requires circuit { IsCircuit (graph_view plan.now.split.graph) (circuit_view circuit.now) }
+    requires ready { IsReady circuit.now }
+    requires machine { IsMachine (circuit_view circuit.now) machine }
+    requires rings { length (machine_view machine).rings
+        ≡ length (graph_view plan.now.split.graph).channels }
+    ensures { IfOk result (IsRingOf plan.now (circuit_view circuit.now)
+        (machine_view machine) rounds workers) }
+{
+    whole_machines_hold();
+    let mut left = machine;
+    let stages = stages_of(alloc, plan, cut, circuit, &mut left, rounds)?;
+    let free = free_parcels(alloc, &stages)?;
+    let words = tape_words(alloc, plan.transformed_graph().nodes(), left.into_words())?;
+    Ok(Ring {
+        stages,
+        free,
+        collector: Collector::new(words, rounds),
+    })
+}

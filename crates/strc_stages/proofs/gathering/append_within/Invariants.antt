@@ -1,7 +1,0 @@
-use Rattle.std.proofs.Common.{◌≡◌, ◌+◌, ◌++◌, take, vec_len, vec_capacity}
-use Rattle.strc_stages.proofs.gathering.append_within.Given as goal
-
-abbrev pub invariant-loop-word : goal.invariant-loop-word
-invariant-loop-word l = (l.own.items ≡ l.fn.own.items ++ take l.word-index l.more)
-    × (vec_len l.own ≡ vec_len l.fn.own + l.word-index)
-    × (vec_capacity l.own ≡ vec_capacity l.fn.own)

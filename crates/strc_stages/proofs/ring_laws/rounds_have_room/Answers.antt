@@ -1,5 +1,0 @@
-use Rattle.strc_stages.proofs.Room.{rounds_have_room}
-use Rattle.strc_stages.proofs.ring_laws.rounds_have_room.Goals as goal
-
-pub returns : goal.returns
-returns c = rounds_have_room

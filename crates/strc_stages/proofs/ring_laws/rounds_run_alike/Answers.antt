@@ -1,5 +1,0 @@
-use Rattle.strc_stages.proofs.OneMachine.{rounds_run_alike}
-use Rattle.strc_stages.proofs.ring_laws.rounds_run_alike.Goals as goal
-
-pub returns : goal.returns
-returns c = rounds_run_alike

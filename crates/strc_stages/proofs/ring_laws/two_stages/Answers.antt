@@ -1,5 +1,0 @@
-use Rattle.strc_stages.proofs.Rows.{two_stages_row}
-use Rattle.strc_stages.proofs.ring_laws.two_stages.Goals as goal
-
-pub returns : goal.returns
-returns c = two_stages_row

@@ -1,5 +1,0 @@
-use Rattle.strc_stages.proofs.Staged.{split_bounds_are_a_cut}
-use Rattle.strc_stages.proofs.split_cut_laws.split_bounds_are_a_cut.Goals as goal
-
-pub returns : goal.returns
-returns c = split_bounds_are_a_cut

@@ -1,5 +1,0 @@
-use Rattle.strc_stages.proofs.SplitRingsRows.{split_cut_row}
-use Rattle.strc_stages.proofs.split_cut_laws.split_cut_row.Goals as goal
-
-pub returns : goal.returns
-returns c = split_cut_row

@@ -1,5 +1,0 @@
-use Rattle.strc_stages.proofs.Staged.{split_cuts_are_staged}
-use Rattle.strc_stages.proofs.split_cut_laws.split_cuts_are_staged.Goals as goal
-
-pub returns : goal.returns
-returns c = split_cuts_are_staged

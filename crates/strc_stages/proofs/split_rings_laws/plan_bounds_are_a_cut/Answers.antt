@@ -1,5 +1,0 @@
-use Rattle.strc_stages.proofs.Plans.{plan_bounds_are_a_cut}
-use Rattle.strc_stages.proofs.split_rings_laws.plan_bounds_are_a_cut.Goals as goal
-
-pub returns : goal.returns
-returns c = plan_bounds_are_a_cut

@@ -1,5 +1,0 @@
-use Rattle.strc_stages.proofs.PlanRuns.{plan_parcels_fit}
-use Rattle.strc_stages.proofs.split_rings_laws.plan_parcels_fit.Goals as goal
-
-pub returns : goal.returns
-returns c = plan_parcels_fit

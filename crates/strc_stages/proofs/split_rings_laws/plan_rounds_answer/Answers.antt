@@ -1,5 +1,0 @@
-use Rattle.strc_stages.proofs.PlanRuns.{plan_rounds_answer}
-use Rattle.strc_stages.proofs.split_rings_laws.plan_rounds_answer.Goals as goal
-
-pub returns : goal.returns
-returns c = plan_rounds_answer

@@ -1,5 +1,0 @@
-use Rattle.strc_stages.proofs.Rings.{graphs_are_running}
-use Rattle.strc_stages.proofs.split_rings_laws.split_graphs_are_running.Goals as goal
-
-pub returns : goal.returns
-returns c = graphs_are_running

@@ -1,5 +1,0 @@
-use Rattle.strc_stages.proofs.Rings.{rings_answer}
-use Rattle.strc_stages.proofs.split_rings_laws.split_rings_answer.Goals as goal
-
-pub returns : goal.returns
-returns c = rings_answer

@@ -1,6 +1,0 @@
--- Places as contracts speak of them.
-use Rattle.strc_statements.specs.Texts as texts
-use Rattle.strc_statements.specs.declared.steps.Place.{Place}
-
-abbrev pub place_of : Place → texts.Place
-place_of place = record { declaration = place.declaration; constants = place.constants.now }

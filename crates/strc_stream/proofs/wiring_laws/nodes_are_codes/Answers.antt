@@ -1,5 +1,0 @@
-use Rattle.strc_stream.proofs.Nodes.{nodes_are_codes}
-use Rattle.strc_stream.proofs.wiring_laws.nodes_are_codes.Goals as goal
-
-pub returns : goal.returns
-returns c = nodes_are_codes

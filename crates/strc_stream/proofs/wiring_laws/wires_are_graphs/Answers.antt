@@ -1,5 +1,0 @@
-use Rattle.strc_stream.proofs.Whole.{wires_are_graphs}
-use Rattle.strc_stream.proofs.wiring_laws.wires_are_graphs.Goals as goal
-
-pub returns : goal.returns
-returns c = wires_are_graphs

@@ -1,5 +1,0 @@
-use Rattle.strc_stream.proofs.Paths.{wires_connect}
-use Rattle.strc_stream.proofs.wiring_laws.wires_connect.Goals as goal
-
-pub returns : goal.returns
-returns c = wires_connect

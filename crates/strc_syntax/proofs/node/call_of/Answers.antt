@@ -1,6 +1,0 @@
-use Rattle.strc_syntax.proofs.Calls.{expr_view_call}
-use Rattle.strc_syntax.proofs.node.call_of.Goals as goal
-
--- src/node.rt:49:1
-pub returns : goal.returns
-returns c = expr_view_call c.args.name c.args.arguments

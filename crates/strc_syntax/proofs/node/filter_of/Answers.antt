@@ -1,5 +1,0 @@
-use Rattle.strc_syntax.proofs.Views.{child_view_filter}
-use Rattle.strc_syntax.proofs.node.filter_of.Goals as goal
-
-pub returns-clause-view : goal.returns-clause-view
-returns-clause-view c = child_view_filter c.args.types c.args.members

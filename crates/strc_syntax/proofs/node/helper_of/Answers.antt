@@ -1,6 +1,0 @@
-use Rattle.strc_syntax.proofs.Views.{member_view_helper}
-use Rattle.strc_syntax.proofs.node.helper_of.Goals as goal
-
--- src/node.rt:207:1
-pub returns-clause-view : goal.returns-clause-view
-returns-clause-view c = member_view_helper c.args.kind c.args.name c.args.parameters c.args.block

@@ -1,0 +1,44 @@
+// How many events a ring has until it is over, and where its parcels are then.
+
+use crate::outcome_text::told_collector;
+use crate::programs::{PROGRAMS, case_of};
+use crate::rings::begin;
+use std::test::Fail;
+use strc_stage::pipe::State;
+use strc_stage_steps::Event;
+
+/// More events than the ring has.
+const MOST: u32 = 1000;
+
+/// Three stages and the collector: of three rounds each takes and gives three parcels, and all six
+/// are on the last link then.
+#[test]
+fn three_rounds_are_twenty_four_events(rt: HostRuntime) -> Result<(), Fail> {
+    let alloc = rt.alloc();
+    let case = case_of(alloc, PROGRAMS[1])?;
+    let mut pipe = match begin(alloc, &case, 3)?.into_state() {
+        State::Going(pipe) => pipe,
+        State::Faulted { .. } => return Err("start-up faults".into()),
+    };
+    let mut events = 0u32;
+    for _ in 0..MOST {
+        if !pipe.advance(alloc) {
+            break;
+        }
+        events = events.wrapping_add(1);
+    }
+    assert_eq!(rt; events, 24);
+    for actor in 0..4 {
+        assert!(rt; !pipe.event(alloc, Event::Take(actor)));
+        assert!(rt; !pipe.event(alloc, Event::Give(actor)));
+    }
+    let parts = pipe.parts();
+    assert_eq!(rt; parts.links.len(), 4);
+    for (number, link) in parts.links.iter().enumerate() {
+        let wanted = if number == 3 { 6 } else { 0 };
+        assert_eq!(rt; link.len(), wanted);
+    }
+    let told = told_collector(alloc, &parts.collector.into_parts())?;
+    assert_eq!(rt; told.as_str(), case.wanted);
+    Ok(())
+}

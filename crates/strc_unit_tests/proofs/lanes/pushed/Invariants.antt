@@ -1,9 +1,0 @@
-use Rattle.strc_semantics.specs.Filters.{filter_of}
-use Rattle.strc_work.specs.States.{IsFrameOf, IsStateOf}
-use Rattle.strc_unit_tests.proofs.lanes.pushed.Given as goal
-
-abbrev pub invariant-loop-lane : goal.invariant-loop-lane
-invariant-loop-lane l = record {
-  state : IsStateOf (filter_of l.code) l.state;
-  frame : IsFrameOf (filter_of l.code) l.frame;
-}

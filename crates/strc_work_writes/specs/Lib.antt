@@ -1,0 +1,5 @@
+pub mod LocalWrites
+pub mod Calls
+pub mod Stateless
+pub mod Walk
+pub mod Writers
