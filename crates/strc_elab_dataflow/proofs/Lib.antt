@@ -29,7 +29,6 @@ pub mod Collecting
 pub mod StagedRun
 pub mod Chains
 pub mod Rewired
-pub mod Simulated
 pub mod Row
 pub mod Ranges
 pub mod Alone

@@ -1,5 +1,4 @@
 pub mod Bases
-mod Dividing
 pub mod Each
 mod Grouped
 pub mod Joining

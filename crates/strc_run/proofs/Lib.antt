@@ -5,5 +5,4 @@ pub mod Located
 pub mod PlannedGraphs
 pub mod RatedGraphs
 pub mod Refusals
-pub mod Rounds
 pub mod TextRuns

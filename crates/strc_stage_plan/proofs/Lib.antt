@@ -1,5 +1,4 @@
 pub mod Exclusion
-pub mod Lengths
 pub mod Transformed
 pub mod GroupBounds
 pub mod Forward

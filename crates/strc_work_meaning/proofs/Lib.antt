@@ -3,4 +3,3 @@ pub mod Growth
 pub mod Turns
 pub mod ConstantValues
 pub mod Calls
-pub mod Examples

@@ -7,7 +7,5 @@ pub mod ResolvingExpressions
 pub mod Unanswered
 pub mod ResolvingStatements
 pub mod Resolving
-pub mod FixedRates
 pub mod Calls
 pub mod AcceptedHelpers
-pub mod KnownHelpers
