@@ -1,10 +1,10 @@
 -- Workers on their seats, and after their work.
-use Rattle.std.specs.Prelude.{◌≡◌, ◌++◌, List, [], ◌∷◌, map}
+use Rattle.std.specs.Prelude.{◌≡◌, ◌++◌, ℕ, zero, suc, List, [], ◌∷◌, All, length, map}
 use Rattle.strc_stage_core.specs.States.{Runs}
 use Rattle.strc_stage_core.specs.Parcels.{ParcelView}
 use Rattle.strc_run_links.specs.declared.tx.Tx.{Tx}
 use Rattle.strc_run_links.specs.declared.rx.Rx.{Rx}
-use Rattle.strc_run_links.specs.Ends.{sent_by, got_by, IsLink}
+use Rattle.strc_run_links.specs.Ends.{sent_by, got_by, room_of, IsLink}
 use Rattle.strc_run_links.specs.declared.worker_end.Worked.{Worked}
 use Rattle.strc_run_links.specs.Working.{put_back, stepped, Did}
 use Rattle.strc_run_links.specs.declared.shapes.Start.{Start}
@@ -32,6 +32,20 @@ IsReady start ready =
     × (sent_by ready.tx ≡ start.free.items)
     × (got_by ready.rx ≡ [])
     × (ready.collector ≡ start.collector)
+
+-- The room of a link for so many parcels: a link has room for one at least.
+abbrev pub room_for : (parcels : ℕ) → ℕ
+room_for zero = 1
+room_for (suc less) = suc less
+
+-- The link after a seat has this room.
+abbrev pub HasRoom : {S : Type 0} → (room : ℕ) → Seat S → Type 0
+HasRoom room seat = room_of seat.tx ≡ room
+
+-- Each link of a ring has room for all its parcels.
+abbrev pub HaveRoom : {S C : Type 0} → (parcels : ℕ) → Ready S C → Type 0
+HaveRoom parcels ready =
+    (room_of ready.tx ≡ room_for parcels) × All (HasRoom (room_for parcels)) ready.seats.items
 
 -- What an actor took is what was received, but for a misfit. After `before` was sent, what it gave,
 -- and then what it holds, are its steps over what it took.

@@ -1,8 +1,9 @@
 // The links of a ring are made, and each actor gets its ends.
 
-ghost use Rattle.std.specs.Prelude.{◌≡◌, ◌<◌, ◌++◌, [], IfOk};
+ghost use Rattle.std.specs.Prelude.{◌≡◌, ◌<◌, ◌++◌, [], All, IfOk, length};
 ghost use Rattle.strc_run_links.specs.Ends.{sent_by, got_by, SameTx, IsLink};
-ghost use Rattle.strc_run_links.specs.Seats.{IsReady, Linked, stages_of};
+ghost use Rattle.strc_run_links.specs.Seats as seats;
+ghost use Rattle.strc_run_links.specs.Seats.{HasRoom, HaveRoom, IsReady, Linked, stages_of};
 
 use crate::shapes::{Ready, Seat, Start};
 use crate::{Rx, Tx, link};
@@ -18,7 +19,8 @@ pub fn seat_all<S: Drop, C: Drop, R: Wait>(
     alloc: Global,
     start: Start<S, C>,
 ) -> Result<Ready<S, C>, NoMemory>
-    ensures { IfOk result (λ ready. IsReady start ready) }
+    ensures ready { IfOk result (λ ready. IsReady start ready) }
+    ensures room { IfOk result (HaveRoom (length start.free.items)) }
 {
     let Start {
         stages,
@@ -39,7 +41,8 @@ pub fn seat_all<S: Drop, C: Drop, R: Wait>(
 
 /// More than a link can count are refused as too much for the memory.
 fn room_for(count: usize) -> Result<u32, NoMemory>
-    ensures { IfOk result (λ room. 0 < room) }
+    ensures some { IfOk result (λ room. 0 < room) }
+    ensures all { IfOk result (λ room. room ≡ seats.room_for count) }
 {
     match u32::try_from(count) {
         Ok(0) => Ok(1),
@@ -73,9 +76,10 @@ fn seat<S: Drop>(
 ) -> Result<(Vec<Seat<S>>, Rx), NoMemory>
     requires room { 0 < room }
     requires first { IsLink before.now first × (got_by first ≡ []) }
-    ensures { IfOk result (λ r.
+    ensures linked { IfOk result (λ r.
         (stages_of r.0.items ≡ stages.items) × Linked before.now r.0.items r.1
         × (got_by r.1 ≡ [])) }
+    ensures room { IfOk result (λ r. All (HasRoom room) r.0.items) }
 {
     let mut rx = first;
     let mut seats = Vec::new(alloc);

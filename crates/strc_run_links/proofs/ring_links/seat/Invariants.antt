@@ -1,7 +1,8 @@
 use Rattle.std.proofs.Common.{◌≡◌, ◌++◌, [], length}
+use Rattle.std.specs.Prelude.{All}
 use Rattle.std.specs.Vec.Iter.{into_iter_items, into_iter_len}
 use Rattle.strc_run_links.specs.Ends.{got_by}
-use Rattle.strc_run_links.specs.Seats.{Linked, stages_of}
+use Rattle.strc_run_links.specs.Seats.{HasRoom, Linked, stages_of}
 use Rattle.strc_run_links.proofs.ring_links.seat.Given as goal
 
 abbrev pub invariant-loop-stage : goal.invariant-loop-stage
@@ -10,3 +11,4 @@ invariant-loop-stage g l =
     × Linked l.fn.before l.seats.items l.rx
     × (got_by l.rx ≡ [])
     × (into_iter_len l.stage-iterator ≡ length (into_iter_items l.stage-iterator))
+    × All (HasRoom l.fn.room) l.seats.items
