@@ -312,7 +312,7 @@ impl Machine {
                 firing,
                 circuit.inputs.at(node),
                 circuit.outputs.at(node),
-                &circuit.input,
+                input_of(circuit),
                 &mut self.rings,
                 &mut self.words[node],
             ),
@@ -382,6 +382,14 @@ fn hands_at(hands: &[Vec<bool>], place: usize) -> &[bool] {
     } else {
         &[]
     }
+}
+
+/// The program's input, which the circuits of a run share.
+#[inline]
+fn input_of(circuit: &Circuit) -> &[i32]
+    ensures { result.now ≡ (circuit_view circuit.now).input }
+{
+    &circuit.input
 }
 
 /// No words of so many nodes.

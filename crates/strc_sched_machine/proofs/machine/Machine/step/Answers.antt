@@ -208,14 +208,14 @@ returns-in_default c =
           c.at.result.now c.at-in_default.result.now input c.deref_mut-in_default.result.now)
           c.fire_passive.result [] [] c.deref_mut-in_default.result.now
           c.fire_passive.new.rings c.index_mut-in_default.result.now.items
-          c.fire_passive.new.words.items) c.deref.ensures.value c.fire_passive.ensures.step))))
+          c.fire_passive.new.words.items) c.input_of.ensures c.fire_passive.ensures.step))))
           refl (fields_kept before.fields number none)
           (words_set words number c.fire_passive.new.words) (words_many words number held);
       memory = step_wants _ (prints_at circuit number firing) _
           (step_at circuit before number firing) c.fire_passive.result
           (sym (ap (λ found. maybe_prints found firing) here))
           (ap (λ input. node_step code firing [] inputs outputs input
-          c.deref_mut-in_default.result.now) c.deref.ensures.value
+          c.deref_mut-in_default.result.now) c.input_of.ensures
           ∙ ap (node_step code firing [] inputs outputs circuit.input)
           c.deref_mut-in_default.ensures.value
           ∙ ap (λ l. node_step code firing l inputs outputs circuit.input before.rings) (sym none)
