@@ -1,8 +1,13 @@
-"""The built program, as the scripts beside run it: build/strc, or the one that STRC names."""
+"""The kept program, as the scripts beside and those of bench/ run it: build/strc, proved or not, or
+the one that STRC names.
+"""
 import functools
 import os
 import subprocess
+import sys
 from pathlib import Path
+
+import kept
 
 TOP = Path(__file__).resolve().parent.parent
 STRC = os.environ.get("STRC", TOP / "build" / "strc")
@@ -11,10 +16,14 @@ SECONDS = 60
 HANGS = "no end"
 
 
-def build():
-    """Builds the program where it isn't built."""
-    if "STRC" not in os.environ:
-        subprocess.run([TOP / "strc", "--keep"], check=True)
+def build(is_timed=False):
+    """Has a program of the sources as they are. What is timed says so where it isn't proved."""
+    if "STRC" in os.environ:
+        return
+    subprocess.run([TOP / "strc", "--keep"], check=True)
+    if is_timed and not kept.read()["proved"]:
+        print("strc: this program isn't proved, and takes 2 to 8 times as long as the proved one: its"
+              " times aren't the proved one's", file=sys.stderr)
 
 
 @functools.cache
