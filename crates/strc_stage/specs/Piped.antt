@@ -1,8 +1,8 @@
 -- A plan's stages on one thread: a ring in some state, or the fault of start-up.
-use Rattle.std.specs.Prelude.{◌≡◌, ℕ, Bool, false, ℤ, List}
+use Rattle.std.specs.Prelude.{◌≡◌, ℕ, Bool, false, true, ℤ, List}
 use Rattle.strc_stage_core.specs.declared.event.Event.{Event}
 use Rattle.strc_stage_core.specs.Events as events
-use Rattle.strc_stage_core.specs.Events.{may}
+use Rattle.strc_stage_core.specs.Events.{is_over, may}
 use Rattle.strc_stage_core.specs.States.{first_core}
 use Rattle.strc_stage_plan.specs.Plans.{PlanParts}
 use Rattle.strc_stage_steps.specs.Steps.{stage_work}
@@ -12,7 +12,7 @@ use Rattle.strc_stage_steps.specs.Collectors.{sees}
 use Rattle.strc_stage_steps.specs.Stages.{see}
 use Rattle.strc_stage_steps.specs.declared.collector.CollectorParts.{CollectorParts}
 use Rattle.strc_stage_steps.specs.declared.stage.StageParts.{StageParts}
-use Rattle.strc_stage_cut.specs.Launches.{HasBegun, start_of}
+use Rattle.strc_stage_cut.specs.Launches.{HasBegun, IsLaunch, start_of}
 use Rattle.strc_stage_cut.specs.Startups.{HasFaulted}
 use Rattle.strc_stage_cut.specs.declared.stage_ring as launching
 use Rattle.strc_stage_cut.specs.declared.stage_ring.Launch.{Launch}
@@ -38,6 +38,11 @@ IsPipe plan input rounds (state.Going ring) = HasGoneOn plan input rounds ring
 IsPipe plan input rounds (state.Faulted node firing cause) =
     HasFaulted plan input node firing cause
 
+-- Nothing is left to happen: the collector has ended, or start-up faulted.
+abbrev pub HasEnded : State → Type 0
+HasEnded (state.Going ring) = is_over (core_seen ring) ≡ true
+HasEnded (state.Faulted node firing cause) = Unit {0}
+
 -- Which events are allowed; none after a fault of start-up.
 abbrev pub may_happen : State → Event → Bool
 may_happen (state.Going ring) event = may (core_seen ring) event
@@ -59,3 +64,8 @@ StateOf (launched.Going first) (state.Going ring) = IsFirstOf first ring
 StateOf (launched.Faulted node firing cause) (state.Faulted at number why) =
     (at ≡ node) × (number ≡ firing) × (why ≡ cause)
 StateOf _ _ = ⊥
+
+-- The first state of the stages that so many workers share: before any event, after start-up.
+abbrev pub IsFirstState : PlanParts → (input : List ℤ) → (rounds workers : ℕ) → State → Type 0
+IsFirstState plan input rounds workers now =
+    (launch : Launch) × IsLaunch plan input rounds workers launch × StateOf launch now

@@ -12,7 +12,8 @@ ghost use Rattle.strc_stage_steps.specs.Seeing as pipes;
 ghost use Rattle.strc_stage_cut.specs.Launches.{IsLaunch, start_of};
 ghost use Rattle.strc_stage.specs.Answers.{AnswersPlan};
 ghost use Rattle.strc_stage.specs.Running.{EndsSo, IsBegun};
-ghost use Rattle.strc_stage.specs.Piped.{IsPipe, Happens, IsFirstOf, StateOf, may_happen};
+ghost use Rattle.strc_stage.specs.Piped.{HasEnded, IsPipe, Happens, IsFirstOf, IsFirstState};
+ghost use Rattle.strc_stage.specs.Piped.{StateOf, may_happen};
 
 use crate::collector_outcome::{faulted, outcome_of};
 use std::alloc::Global;
@@ -50,6 +51,8 @@ impl Pipe {
     pub fn new(alloc: Global, stages: Stages, input: &[i32], rounds: u32) -> Result<Pipe, NoMemory>
         requires rounds { 0 < rounds }
         ensures plan { IfOk result (λ pipe. pipe.plan ≡ stages.plan) }
+        ensures first { IfOk result (λ pipe. IsFirstState stages.plan input.now rounds
+            stages.workers pipe.state) }
         ensures state { IfOk result (λ pipe. IsPipe stages.plan input.now rounds
             pipe.state) }
     {
@@ -85,6 +88,7 @@ impl Pipe {
         ensures answer { IfOk result (λ ended. (input : List ℤ) (rounds : ℕ) → rounds < 2 ^ 32
             → need_of self.plan rounds ≤ length input → IsPipe self.plan input rounds self.state
             → IfOk ended (AnswersPlan self.plan input rounds)) }
+        ensures over { IfOk result (λ _. HasEnded self.state) }
         ensures memory { IfOk result (λ ended. IfErr ended (λ refusal. refusal
             ≡ refused.NoMemory)) }
         ensures goes { IfErr result (λ pipe. (pipe ≡ self)

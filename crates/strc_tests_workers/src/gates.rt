@@ -1,7 +1,7 @@
 // Steps of stages in threads, as a gate sees them.
 
 use crate::outcome_text::told;
-use crate::programs::{Case, PROGRAMS, case_of};
+use crate::programs::{Case, PROGRAMS, case_of, split_case_of};
 use std::alloc::Global;
 use std::process::Abort;
 use std::sync::Wait;
@@ -186,5 +186,14 @@ fn a_slow_stage_comes_to_the_same(rt: HostRuntime) -> Result<(), Fail> {
     let turns = compare_slow(&rt, alloc, &early_fault(alloc)?)?;
     // Each stage is in the round before the fault.
     assert!(rt; turns >= 3 * TURNS as u64);
+    Ok(())
+}
+
+#[test]
+fn copies_with_a_slow_stage_come_to_the_same(rt: HostRuntime) -> Result<(), Fail> {
+    let alloc = rt.alloc();
+    for row in PROGRAMS {
+        compare_slow(&rt, alloc, &split_case_of(alloc, row)?)?;
+    }
     Ok(())
 }

@@ -31,6 +31,8 @@ mod rendezvous;
 #[cfg(test)]
 mod rings;
 #[cfg(test)]
+mod steps;
+#[cfg(test)]
 mod toy_rings;
 #[cfg(test)]
 mod toy_stages;

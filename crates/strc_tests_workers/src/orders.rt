@@ -2,7 +2,7 @@
 
 use crate::dice::{Bent, Dice};
 use crate::outcome_text::told;
-use crate::programs::{Case, PROGRAMS, case_of};
+use crate::programs::{Case, PROGRAMS, case_of, split_case_of};
 use crate::rings::{begin, random_events};
 use std::alloc::Global;
 use std::process::Abort;
@@ -94,6 +94,15 @@ fn any_order_of_events_comes_to_the_same(rt: HostRuntime) -> Result<(), Fail> {
     let alloc = rt.alloc();
     for row in PROGRAMS {
         compare_case(&rt, alloc, &case_of(alloc, row)?)?;
+    }
+    Ok(())
+}
+
+#[test]
+fn copies_by_any_order_of_events_come_to_the_same(rt: HostRuntime) -> Result<(), Fail> {
+    let alloc = rt.alloc();
+    for row in PROGRAMS {
+        compare_case(&rt, alloc, &split_case_of(alloc, row)?)?;
     }
     Ok(())
 }

@@ -22,6 +22,7 @@ int->int filter Negative { work push 1 pop 1 { push(-pop()); } }
 int->int filter Delay { prework push 1 { push(0); } work push 1 pop 1 { push(pop()); } }
 int->int filter Inv { work push 1 pop 1 { push(100 / pop()); } }
 int->int filter Shifted { work push 1 pop 1 { push(100 / (pop() - 50)); } }
+void->int filter Falling { int x; work push 1 { push(7 / (20 - x)); x++; } }
 int->int filter Rising { work push 1 pop 1 { push(7 / (20 - pop())); } }
 int->int feedbackloop Running {
     join roundrobin(1, 1);
@@ -93,6 +94,16 @@ pub struct Case<'a> {
 
 /// The case of a row.
 pub fn case_of(alloc: Global, row: &str) -> Result<Case<'_>, Fail> {
+    case_with(alloc, row, 1, 0)
+}
+
+/// The case of a row, with two copies of each filter that can have them, and with fused units.
+pub fn split_case_of(alloc: Global, row: &str) -> Result<Case<'_>, Fail> {
+    case_with(alloc, row, 2, 8)
+}
+
+/// The case of a row, with so many ways, and with units fused up to so many entries.
+fn case_with(alloc: Global, row: &str, ways: u32, fuse: u32) -> Result<Case<'_>, Fail> {
     let (name, rest) = row.split_once("|").ok_or("no rounds")?;
     let (rounds, rest) = rest.split_once("|").ok_or("no input")?;
     let (input, rest) = rest.split_once("|").ok_or("no outcome")?;
@@ -100,7 +111,7 @@ pub fn case_of(alloc: Global, row: &str) -> Result<Case<'_>, Fail> {
     let rounds: Option<u32> = rounds.parse().ok();
     Ok(Case {
         name,
-        plan: plan_of(alloc, children)?,
+        plan: plan_of(alloc, children, ways, fuse)?,
         input: items_of(alloc, input)?,
         rounds: rounds.ok_or("no number of rounds")?,
         wanted,
@@ -108,12 +119,12 @@ pub fn case_of(alloc: Global, row: &str) -> Result<Case<'_>, Fail> {
 }
 
 /// The plan of a pipeline of these children.
-fn plan_of(alloc: Global, children: &str) -> Result<Plan, Fail> {
+fn plan_of(alloc: Global, children: &str, ways: u32, fuse: u32) -> Result<Plan, Fail> {
     let text = format!(in alloc; "{FILTERS}void->void pipeline Main {{ {children} }}\n")?;
     let options = Options {
         main: None,
-        ways: 1,
-        fuse: 0,
+        ways,
+        fuse,
     };
     let plan = compile(alloc, text.as_bytes(), &options).ok();
     Ok(plan.ok_or("no plan")?)

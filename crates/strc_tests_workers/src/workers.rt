@@ -4,7 +4,7 @@ ghost use Rattle.std.specs.Prelude.{◌≤◌, ◌<◌, length};
 ghost use Rattle.strc_sched.specs.Plain.{need_of};
 
 use crate::outcome_text::told;
-use crate::programs::{Case, PROGRAMS, case_of};
+use crate::programs::{Case, PROGRAMS, case_of, split_case_of};
 use std::alloc::Global;
 use std::process::Abort;
 use std::sync::Wait;
@@ -63,6 +63,15 @@ fn any_number_of_workers_comes_to_the_same(rt: HostRuntime) -> Result<(), Fail> 
     let alloc = rt.alloc();
     for row in PROGRAMS {
         compare_workers(&rt, alloc, &case_of(alloc, row)?)?;
+    }
+    Ok(())
+}
+
+#[test]
+fn copies_by_any_number_of_workers_come_to_the_same(rt: HostRuntime) -> Result<(), Fail> {
+    let alloc = rt.alloc();
+    for row in PROGRAMS {
+        compare_workers(&rt, alloc, &split_case_of(alloc, row)?)?;
     }
     Ok(())
 }

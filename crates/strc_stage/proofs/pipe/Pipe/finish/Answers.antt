@@ -1,9 +1,9 @@
-use Rattle.std.proofs.Common.{◌∙◌, ap, subst, map, IfOk}
+use Rattle.std.proofs.Common.{◌∙◌, ap, subst, sym, map, IfOk}
 use Rattle.strc_elab_dataflow.specs.Answer.{Outcome.StartupFault}
 use Rattle.strc_elab_graph.specs.NodeView.{GraphParts, node_view}
 use Rattle.strc_stage_cut.specs.Startups.{HasFaulted}
 use Rattle.strc_stage.specs.Answers.{IsTold, stop_at}
-use Rattle.strc_stage.specs.Piped.{HasGoneOn, IsPipe}
+use Rattle.strc_stage.specs.Piped.{HasEnded, HasGoneOn, IsPipe}
 use Rattle.strc_stage.proofs.Answering.{faults_told}
 use Rattle.strc_stage.proofs.Piping.{over_answers}
 use Rattle.strc_stage.proofs.pipe.Pipe.finish.Goals as goal
@@ -29,3 +29,9 @@ returns-in-Faulted-clause-answer c = λ input rounds few supplied is.
     (StartupFault (stop_at node firing cause))))
     (c.nodes.ensures ∙ ap (λ (g : GraphParts). g.nodes) c.graph.ensures.graph)
     c.faulted.ensures.ending)
+
+pub returns-in-Ok-clause-over : goal.returns-in-Ok-clause-over
+returns-in-Ok-clause-over c = subst HasEnded (sym c.in-Going.is) c.in-Ok.ensures.over.0
+
+pub returns-in-Faulted-clause-over : goal.returns-in-Faulted-clause-over
+returns-in-Faulted-clause-over c = subst HasEnded (sym c.in-Faulted.is) tt

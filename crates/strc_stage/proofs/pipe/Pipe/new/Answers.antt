@@ -6,3 +6,7 @@ returns-clause-state c =
     launched_pipe c.args.stages.plan c.args.input.now c.args.rounds
     c.args.stages.workers c.in_ok-launched.launched c.in_ok-state_of.field-0
     c.in_ok-launched.ensures c.in_ok-state_of.ensures
+
+pub returns-clause-first : goal.returns-clause-first
+returns-clause-first c =
+    (c.in_ok-launched.launched, c.in_ok-launched.ensures, c.in_ok-state_of.ensures)
