@@ -13,7 +13,8 @@ prove: ## proves the compiler and keeps the proved program (30 to 45 minutes)
 	./strc --prove
 
 gate: ## proves and tests everything, and the documents (some 260 processor minutes)
-	@scripts/documents --check; documents=$$?; rt ci && exit $$documents
+	@scripts/documents --check; documents=$$?; scripts/unused; unused=$$?; \
+	rt ci && exit $$((documents + unused))
 
 test: build ## the examples, and what a shell can do to a run
 	scripts/examples
