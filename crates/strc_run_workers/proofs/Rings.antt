@@ -4,11 +4,12 @@ use Rattle.std.proofs.Common.{Result}
 use Rattle.strc_sched_outcome.specs.declared.outcome.Outcome.{Outcome}
 use Rattle.strc_sched_outcome.specs.declared.run_refusal.RunRefusal.{RunRefusal}
 use Rattle.strc_sched_outcome.specs.declared.run_refusal.RunRefusal.TheVariants as refused
-use Rattle.strc_stage_core.specs.Actors.{Step, Collects, Collector}
+use Rattle.strc_stage_core.specs.Actors.{Collects, Collector}
 use Rattle.strc_stage_core.specs.States.{IsStart}
 use Rattle.strc_stage_core.specs.declared.stop.Stop.{Stop}
 use Rattle.strc_stage_plan.specs.Plans.{PlanParts}
 use Rattle.strc_stage_steps.specs.Steps.{Gathered, stage_work}
+use Rattle.strc_stage_steps.specs.Memory.{IsStep}
 use Rattle.strc_stage_steps.specs.Pipes.{Beginning, IsStateOf}
 use Rattle.strc_run_links.specs.Cores as cores
 use Rattle.strc_run_links.specs.States.{IsRing}
@@ -67,10 +68,9 @@ module _ (ring : Ring) (begun : IsStart (start_of ring)) where
 
   -- What workers leave of it is a state of its start.
   pub left_state : (ended : Parts StageParts CollectorParts)
-      → IsRing (λ s p t q. Step stage_work (see s) p (see t) q)
-      (λ c p d q. Collects stage_work (sees c) p (sees d) q) (seat_of ring) ended
+      → IsRing IsStep (λ c p d q. Collects stage_work (sees c) p (sees d) q) (seat_of ring) ended
       → IsStateOf (start_of ring) (cores.core_of_parts see sees ended)
   left_state ended is =
       subst (λ start. IsStateOf start (cores.core_of_parts see sees ended)) seen_start
-      (ring_state stage_work _ see (λ s p t q does. does) _ sees (λ c p d q gathers. gathers)
+      (ring_state stage_work _ see (λ s p t q does. does.step) _ sees (λ c p d q gathers. gathers)
       (seat_of ring) ended is (subst IsStart (sym seen_start) begun))

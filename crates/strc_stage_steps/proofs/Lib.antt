@@ -5,6 +5,8 @@ pub mod Words
 pub mod Steps
 pub mod Turns
 pub mod Working
+pub mod Wanting
+pub mod QuietStages
 pub mod Fitting
 mod Timely
 mod Acting

@@ -8,6 +8,7 @@ pub mod Going
 pub mod Seeing
 pub mod Pipes
 pub mod Steps
+pub mod Memory
 pub mod Runnings
 pub mod Beginnings
 pub mod CrossingBlocks

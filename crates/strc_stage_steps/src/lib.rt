@@ -3,7 +3,8 @@
 // Gives the stages of the plan, the collector of what they print, and a ring of them on one thread,
 // whose events happen one by one (`Pipe`); the machine of the graph after fission, to which the
 // state is dealt out (`deal_out`); and laws on rings of stages, and on plans that are run by them.
-// The theorems to rely on: each step of a stage, and of a collector, is the one defined;
+// The theorems to rely on: each step of a stage, and of a collector, is the one defined; that of a
+// stage wants memory only for words (`quiet_stages_want_no_memory`: so none where there are none);
 // `Pipe::event` answers whether the core allows the event, and lets exactly that happen; the end of
 // `Pipe::drive` is over, for every start. `stages_run_alike`: a ring that is over has come to the
 // outcome of the rounds, from the state that it began with; `plan_rings_answer`: and so to the
@@ -23,6 +24,7 @@ pub mod dealt_state;
 mod empty_ring;
 mod incoming_items;
 pub mod laws;
+pub mod memory_laws;
 mod moves;
 mod outgoing_items;
 mod parts;

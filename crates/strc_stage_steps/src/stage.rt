@@ -98,12 +98,10 @@ impl Stage {
 
 impl Actor for Stage {
     ghost use Rattle.std.specs.Prelude.{is_some, nat_le, ◌||◌};
-    ghost use Rattle.strc_stage_core.specs.Actors.{Step};
-    ghost use Rattle.strc_stage_steps.specs.Steps.{stage_work};
-    ghost use Rattle.strc_stage_steps.specs.Stages.{see};
+    ghost use Rattle.strc_stage_steps.specs.Memory.{IsStep};
     ghost use Rattle.strc_stage_steps.specs.Blocks.{fits};
 
-    ghost does = { λ s p t q. Step stage_work (see s) p (see t) q };
+    ghost does = { IsStep };
 
     ghost has_finished = { λ s. s.finished || nat_le s.rounds s.taken };
 
@@ -135,7 +133,7 @@ impl StageActor for Stage {
 
     ghost see = { see };
 
-    ghost steps = { λ stage parcel later result does. does };
+    ghost steps = { λ stage parcel later result does. does.step };
 
     ghost goes = { λ stage going left. not_finished stage.finished stage.rounds stage.taken going
         left };

@@ -3,8 +3,9 @@
 ghost use Rattle.std.specs.Prelude.{◌≡◌, ◌<◌, false};
 ghost use Rattle.strc_stage_core.specs.Actors as core;
 ghost use Rattle.strc_stage_core.specs.Actors.{Step};
+ghost use Rattle.strc_stage_steps.specs.Memory.{StopsOnlyForWords, WantsWordOfStage};
 ghost use Rattle.strc_stage_steps.specs.Steps.{stage_work};
-ghost use Rattle.strc_stage_steps.specs.Stages.{IsStage, see};
+ghost use Rattle.strc_stage_steps.specs.Stages.{IsStage, see, state_of};
 ghost use Rattle.strc_stage_steps.specs.Stepping.{HasRun, HasWorked, told};
 
 use crate::incoming_items::enter;
@@ -15,13 +16,15 @@ use std::alloc::Global;
 use strc_sched_machine::machine;
 use strc_stage_core::{Parcel, Stop};
 
-/// A parcel becomes another one, and the stage is a round further.
+/// A parcel becomes another one, and the stage is a round further. It is stopped for want of memory
+/// only where one of its nodes has a word to give.
 pub(crate) fn step_parts(stage: &mut StageParts, alloc: Global, parcel: Parcel) -> Parcel
     requires is { IsStage stage.old }
     requires open { stage.old.finished ≡ false }
     requires left { stage.old.taken < stage.old.rounds }
     ensures is { IsStage stage.new }
     ensures step { Step stage_work (see stage.old) parcel (see stage.new) result }
+    ensures memory { StopsOnlyForWords (see stage.old) parcel result }
 {
     let mut parcel = parcel;
     let marked = marks(stage, &parcel);
@@ -51,6 +54,7 @@ fn run(stage: &mut StageParts, alloc: Global, parcel: &mut Parcel)
     requires is { IsStage stage.old }
     ensures is { IsStage stage.new }
     ensures run { HasRun stage.old parcel.old stage.new parcel.new }
+    ensures memory { StopsOnlyForWords (see stage.old) parcel.old parcel.new }
 {
     if parcel.stopped() {
         stage.stop = parcel.stop();
@@ -69,12 +73,13 @@ fn run(stage: &mut StageParts, alloc: Global, parcel: &mut Parcel)
 }
 
 /// The firings of a round: the parcel's items go into the rings, and what leaves goes into the
-/// parcel. Or why they stop.
+/// parcel. Or why they stop: for want of memory only where a firing has a word to give.
 fn work(stage: &mut StageParts, alloc: Global, parcel: &mut Parcel) -> Option<Stop>
     requires is { IsStage stage.old }
     requires whole { stage.old.broken ≡ false }
     ensures is { IsStage stage.new }
     ensures worked { HasWorked stage.old parcel.old result stage.new parcel.new }
+    ensures memory { WantsWordOfStage (state_of stage.old) parcel.old.load result }
 {
     enter(&mut stage.machine, &stage.entering, parcel);
     match stage.machine.fire_order(&stage.circuit, &stage.order) {

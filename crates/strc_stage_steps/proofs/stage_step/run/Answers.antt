@@ -1,4 +1,4 @@
-use Rattle.std.proofs.Common.{◌≡◌, ◌∙◌, refl, sym, ap, subst, Option, Some, None}
+use Rattle.std.proofs.Common.{◌≡◌, ◌∙◌, refl, sym, ap, subst, Option, Some, None, is_some}
 use Rattle.strc_stage_core.specs.Actors.{or_else}
 use Rattle.strc_stage_core.specs.declared.stop.Stop.{Stop}
 use Rattle.strc_stage_core.specs.Parcels.{ParcelView, parcel, emptied}
@@ -6,6 +6,7 @@ use Rattle.strc_stage_steps.specs.Steps.{with_machine}
 use Rattle.strc_stage_steps.specs.Stages.{see, state_of}
 use Rattle.strc_stage_steps.specs.Stepping.{RunsTo, with_stop}
 use Rattle.strc_stage_steps.proofs.Steps.{stopped_runs, halted_runs, working_runs, stopping_runs}
+use Rattle.strc_stage_steps.proofs.Wanting.{none_wants, stopped_wants, set_wants}
 use Rattle.strc_stage_steps.proofs.stage_step.run.Goals as goal
 
 pub returns-then-stopped-clause-run : goal.returns-then-stopped-clause-run
@@ -65,3 +66,23 @@ returns-in_default-work-clause-run c =
           c.in_default.is own.load own.stop own.last going worked.0 _ c.work.new.parcel worked.1
           worked.2,
     )
+
+pub returns-then-stopped-clause-memory : goal.returns-then-stopped-clause-memory
+returns-then-stopped-clause-memory c = λ none.
+    stopped_wants c.args.parcel.now.stop (sym c.stopped.ensures ∙ c.if-stopped.true) none
+
+pub returns-in-Some-clause-memory : goal.returns-in-Some-clause-memory
+returns-in-Some-clause-memory c = λ none going.
+    stopped_wants c.args.stage.now.stop (ap is_some c.in-Some.is) going
+
+pub returns-in-Some-work-clause-memory : goal.returns-in-Some-work-clause-memory
+returns-in-Some-work-clause-memory c = λ none going e.
+    let worked = c.in-Some-work.ensures.worked in
+    c.in-Some-work.ensures.memory
+    (set_wants _ _ _ c.in-Some-work.stop (ap (λ (p : ParcelView). p.stop)
+    c.set_stop-in-Some-work.ensures)
+    (ap (λ (p : ParcelView). p.stop) c.empty.ensures ∙ worked.4) none e)
+
+pub returns-in_default-work-clause-memory : goal.returns-in_default-work-clause-memory
+returns-in_default-work-clause-memory c = λ none going.
+    none_wants _ (ap (λ (p : ParcelView). p.stop) c.in_default-work.ensures.worked.2 ∙ none)

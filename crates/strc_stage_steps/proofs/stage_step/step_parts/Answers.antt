@@ -1,9 +1,10 @@
-use Rattle.std.proofs.Common.{◌≡◌, ◌∙◌, refl, sym, ap, arith, suc, ◌+◌}
+use Rattle.std.proofs.Common.{◌≡◌, ◌∙◌, refl, sym, ap, subst, arith, suc, ◌+◌}
 use Rattle.strc_stage_core.specs.Actors as actors
 use Rattle.strc_stage_core.specs.Parcels.{ParcelView, parcel}
 use Rattle.strc_stage_steps.specs.Steps.{StageState}
 use Rattle.strc_stage_core.specs.declared.stop.Stop.{Stop}
 use Rattle.strc_stage_steps.specs.Stages.{see}
+use Rattle.strc_stage_steps.specs.Memory.{WantsWordOfStage}
 use Rattle.strc_stage_steps.proofs.Steps.{step_is}
 use Rattle.strc_stage_steps.proofs.stage_step.step_parts.Goals as goal
 
@@ -21,3 +22,9 @@ returns-clause-step c =
     c.marks-marked.ensures
     (c.mark_last.ensures
     ∙ (λ i. parcel (runs.parcel_is i).load (runs.parcel_is i).stop (c.marks-marked.ensures i)))
+
+pub returns-clause-memory : goal.returns-clause-memory
+returns-clause-memory c = λ none going.
+    subst (WantsWordOfStage (see c.args.stage.now).inner c.args.parcel.load)
+    (sym (ap (λ (p : ParcelView). p.stop) c.mark_last.ensures))
+    (c.run.ensures.memory none going)

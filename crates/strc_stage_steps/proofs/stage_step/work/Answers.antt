@@ -5,6 +5,7 @@ use Rattle.strc_sched_laws.specs.Machine.{MachineView, order_run}
 use Rattle.strc_stage_core.specs.Parcels.{ParcelView, parcel, emptied}
 use Rattle.strc_sched_rings.specs.Circuits.{circuit_view}
 use Rattle.strc_sched_orders.specs.Greedy.{firings_of}
+use Rattle.strc_sched_machine.specs.Memory.{WantsWordOfOrder}
 use Rattle.strc_sched_machine.specs.Running.{HasGone, machine_view, with_rings, with_words}
 use Rattle.strc_stage_steps.specs.Steps.{StageState, machine_left, rings_left, words_left}
 use Rattle.strc_stage_steps.specs.Steps.{load_left}
@@ -12,6 +13,7 @@ use Rattle.strc_stage_steps.specs.Steps.{load_worded, load_entered, machine_ente
 use Rattle.strc_stage_steps.specs.Stages.{state_of}
 use Rattle.strc_stage_steps.specs.Stepping.{told, with_stop}
 use Rattle.strc_stage_steps.proofs.Filling.{emptied_entered}
+use Rattle.strc_stage_steps.proofs.Wanting.{none_wants, told_wants}
 use Rattle.strc_stage_steps.proofs.Working.{due_or, none_due, state_is, load_is, with_new}
 use Rattle.strc_stage_steps.proofs.stage_step.work.Goals as goal
 
@@ -88,4 +90,27 @@ returns-in-Err-clause-worked c =
           ∙ emptied_entered stage.entering.items own.load,
       ap (λ (p : ParcelView). p.stop) parcel_in,
       ap (λ (p : ParcelView). p.last) parcel_in,
+    )
+
+pub returns-in-Ok-clause-memory : goal.returns-in-Ok-clause-memory
+returns-in-Ok-clause-memory c = none_wants None refl
+
+pub returns-in-Err-clause-memory : goal.returns-in-Err-clause-memory
+returns-in-Err-clause-memory c =
+    let stage = c.args.stage.now in
+    let own = c.args.parcel.now in
+    let state = state_of stage in
+    let machine = machine_view stage.machine in
+    let is : state.machine ≡ Some machine =
+    ap (λ b. if b then None else Some machine) c.requires.whole in
+    let entered = c.enter.ensures.entered
+    ∙ ap (λ l. machine_entered l own.load machine) c.deref.ensures.value in
+    let wants = subst (λ (m : MachineView). WantsWordOfOrder state.circuit state.order m
+    (Err c.in-Err.stop)) entered c.in-Err.ensures.memory in (
+    λ e. (
+      machine,
+      is,
+      told_wants state.circuit state.order _ c.in-Err.stop c.stop_of.result
+          c.stop_of.ensures wants e,
+    )
     )
