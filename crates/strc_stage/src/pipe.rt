@@ -46,8 +46,7 @@ pub enum State {
 impl Pipe {
     /// Start-up of stages, which this thread runs, and the ring that it leaves, before any event.
     ///
-    /// Err only where memory runs out, or where a channel carries more items in a round than memory
-    /// can hold. Of no rounds there is nothing to hand on.
+    /// Err only where memory runs out. Of no rounds there is nothing to hand on.
     pub fn new(alloc: Global, stages: Stages, input: &[i32], rounds: u32) -> Result<Pipe, NoMemory>
         requires rounds { 0 < rounds }
         ensures plan { IfOk result (λ pipe. pipe.plan ≡ stages.plan) }

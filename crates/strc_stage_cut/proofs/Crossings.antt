@@ -11,6 +11,7 @@ use Rattle.strc_stage_steps.specs.Beginnings.{crosses, crossings_from, entering_
 use Rattle.strc_stage_steps.specs.Beginnings.{ends_in, begins_in, rooms_of, tapes_from}
 use Rattle.strc_stage_steps.specs.CrossingBlocks.{raised}
 use Rattle.strc_stage_steps.specs.Plans.{IsCut, running_of}
+use Rattle.strc_stage_steps.specs.Runnings.{round_pushes}
 use Rattle.strc_stage_steps.specs.declared.crossing_items.Crossing.{Crossing}
 use Rattle.strc_stage_steps.specs.declared.crossing_items.TapeOf.{TapeOf}
 use Rattle.strc_stage_steps.specs.Blocks as blocks
@@ -36,12 +37,13 @@ crossing_step true true block ring own others same =
 crossing_step true false block ring own others same = same (suc block)
 crossing_step false pick block ring own others same = same block
 
-room_step : (cross : Bool) (block : Block) (own : List Block) (rooms : List ℕ)
+room_step : (cross : Bool) (pushes : ℕ) (held : Bool) (own : List Block) (rooms : List ℕ)
     → map blocks.room_of own ≡ rooms
-    → map blocks.room_of (if cross then block ∷ own else own)
-    ≡ (if cross then block.room ∷ rooms else rooms)
-room_step true block own rooms same = ap (λ (l : List ℕ). block.room ∷ l) same
-room_step false block own rooms same = same
+    → map blocks.room_of (if cross then
+    record { room = if cross then pushes else 0; held = held } ∷ own else own)
+    ≡ (if cross then pushes ∷ rooms else rooms)
+room_step true pushes held own rooms same = ap (λ (l : List ℕ). pushes ∷ l) same
+room_step false pushes held own rooms same = same
 
 module _ (plan : PlanParts) (bounds : List ℕ) (stage : ℕ) where
   entering_from : (block ring : ℕ) (channels : List Channel)
@@ -86,7 +88,7 @@ module _ (plan : PlanParts) (bounds : List ℕ) (stage : ℕ) where
   rooms_from [] = refl
   rooms_from (channel ∷ channels) =
       room_step (crosses (bound_in bounds) (last_of bounds) channel)
-      (block_before stage (link_of plan bounds channel))
+      (round_pushes (running_of plan) channel) (block_before stage (link_of plan bounds channel)).held
       (blocks_in stage (map (link_of plan bounds) channels))
       (rooms_of (crosses (bound_in bounds) (last_of bounds)) (running_of plan) channels)
       (rooms_from channels)

@@ -8,11 +8,10 @@ use Rattle.strc_stage_plan.specs.Plans.{IsPlan, PlanParts, graph_of, transformed
 use Rattle.strc_stage_plan.specs.Bounds.{stage_bound, stage_bounds, stage_count}
 use Rattle.strc_stage_plan.specs.Cuts.{IsBetweenGroups, IsBetweenUnits}
 use Rattle.strc_stage_plan.proofs.Shares.{bounds_are_listed}
-use Rattle.strc_stage_steps.specs.Runnings.{round_pushes}
-use Rattle.strc_stage_steps.specs.Plans.{IsCut, running_of}
+use Rattle.strc_stage_steps.specs.Plans.{IsCut}
 use Rattle.strc_stage_steps.proofs.Plans.{plan_bounds_are_a_cut}
 use Rattle.strc_stage_cut.specs.Bounds.{bound_in, last_of}
-use Rattle.strc_stage_cut.specs.Links.{link_of, room_of}
+use Rattle.strc_stage_cut.specs.Links.{items_between, link_of, room_of}
 
 module _ (plan : PlanParts) (workers : ℕ) (plan_is : IsPlan plan) (some : 0 < workers)
     (nodes : 0 < length (graph_of plan).nodes) where
@@ -67,7 +66,7 @@ module _ (plan : PlanParts) (workers : ℕ) (plan_is : IsPlan plan) (some : 0 < 
 -- the room of each channel
 pub link_rooms : (plan : PlanParts) (at_bounds : List ℕ) (channels : List Channel)
     → map room_of (map (link_of plan at_bounds) channels)
-    ≡ map (round_pushes (running_of plan)) channels
+    ≡ map (items_between plan at_bounds) channels
 link_rooms plan at_bounds [] = refl
 link_rooms plan at_bounds (channel ∷ channels) =
-    ap (λ l. round_pushes (running_of plan) channel ∷ l) (link_rooms plan at_bounds channels)
+    ap (λ l. items_between plan at_bounds channel ∷ l) (link_rooms plan at_bounds channels)

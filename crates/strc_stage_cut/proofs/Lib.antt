@@ -2,6 +2,8 @@ pub mod Lists
 pub mod Ranges
 pub mod TapeNodes
 pub mod Cuts
+pub mod Carried
+pub mod RoundCounts
 pub mod Crossings
 pub mod Parting
 pub mod Remainders

@@ -25,6 +25,8 @@ use Rattle.strc_stage_steps.specs.Runnings.{round_pushes}
 use Rattle.strc_stage_steps.specs.Plans.{running_of}
 use Rattle.strc_stage_cut.specs.Bounds.{bound_in, last_of}
 use Rattle.strc_stage_cut.specs.Cuts.{IsCutAt}
+use Rattle.strc_stage_cut.specs.Links.{items_between}
+use Rattle.strc_stage_cut.proofs.Carried.{between_is}
 use Rattle.strc_stage_cut.proofs.Ranges.{own_from, own_below, is_outside}
 
 abbrev empty_ring : ℕ → Ring
@@ -47,7 +49,7 @@ pub record IsParted (plan : PlanParts) (bounds : List ℕ) (circuit own : Circui
   pub next_is : next ≡ bound_in bounds (suc stage)
   pub whole : IsCircuit (transformed_of plan) circuit
   pub of : IsPartOf first next circuit own
-  pub rooms_are : rooms ≡ map (round_pushes (running_of plan)) (transformed_of plan).channels
+  pub rooms_are : rooms ≡ map (items_between plan bounds) (transformed_of plan).channels
   pub each_fields : length before.fields ≡ length (transformed_of plan).nodes
   pub each_fired : length before.fired ≡ length (transformed_of plan).nodes
   pub is : IsPart (transformed_of plan) first next rooms before part
@@ -174,13 +176,13 @@ module _ (plan : PlanParts) (bounds : List ℕ) (circuit own : CircuitView) (roo
         (below channel.target.node (port_there (transformed_of plan).nodes channel.target.node
         channel.target.port joins.target) is)
 
-    room_is : slice_index rooms number ≡ round_pushes (running_of plan) channel
+    room_is : slice_index rooms number ≡ items_between plan bounds channel
     room_is =
         ap (λ (l : List ℕ). slice_index l number) parted.rooms_are
-        ∙ get_or-map (round_pushes (running_of plan)) (transformed_of plan).channels number
+        ∙ get_or-map (items_between plan bounds) (transformed_of plan).channels number
         channel 0
         (slice_get_within (transformed_of plan).channels number channel there)
-        ∙ ap (round_pushes (running_of plan))
+        ∙ ap (items_between plan bounds)
         (get_or_from_slice_get (transformed_of plan).channels number channel channel there)
 
     leaving_is : (source : channel.source.node < length (transformed_of plan).nodes)
@@ -189,7 +191,8 @@ module _ (plan : PlanParts) (bounds : List ℕ) (circuit own : CircuitView) (roo
     leaving_is source is other =
         parted.is.begun number channel there (outside channel.target.node other)
         (from channel.source.node is) (below channel.source.node source is)
-        ∙ ap (λ (n : ℕ). empty_ring n) room_is
+        ∙ ap (λ (n : ℕ). empty_ring n) (room_is
+        ∙ between_is plan bounds channel (λ same. other (sym same ∙ is)))
 
   pub machine_of : IsMachineOf (running_of plan) bound last circuit before stage part
   machine_of = record {

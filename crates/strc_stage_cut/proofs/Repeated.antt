@@ -1,6 +1,8 @@
 -- How often nodes fire in lists that are repeated.
-use Rattle.std.proofs.Common.{◌≡◌, ap, ◌∙◌, ℕ, zero, suc, ◌+◌, ◌*◌, ◌<◌, List, [], ◌∷◌}
-use Rattle.std.proofs.Common.{length, get_or, take, inl, inr, arith}
+use Rattle.std.proofs.Common.{◌≡◌, refl, ap, ◌∙◌, ℕ, zero, suc, ◌+◌, ◌*◌, ◌<◌, ◌≤◌, List, [], ◌∷◌}
+use Rattle.std.proofs.Common.{length, get_or, take, drop, inl, inr, arith}
+use Rattle.std.proofs.lemmas.List.{take-append-drop}
+use Rattle.std.proofs.Math.Nat.{mul-le-mul_left}
 use Rattle.std.proofs.lemmas.Bool.{cases_eq}
 use Rattle.strc_sched_orders.specs.Firings.{turns_of}
 use Rattle.strc_sched_orders.specs.Greedy.{firings_of}
@@ -8,6 +10,7 @@ use Rattle.strc_sched_orders.specs.Order.{firing_count, repeated}
 use Rattle.strc_sched_orders.specs.declared.unit as units
 use Rattle.strc_sched_orders.proofs.FiringCounts.{firing_count_append, turns_same, turns_other}
 use Rattle.strc_sched_orders.proofs.Passing.{list_more, units_more}
+use Rattle.strc_sched_orders.proofs.Ranges.{firings_joined}
 
 turns_times : (turns node other : ℕ) → turns_of turns node other ≡ turns * turns_of 1 node other
 turns_times turns node other = elim (cases_eq other node) [
@@ -64,3 +67,44 @@ units_next order i unit other less is =
     ∙ firing_count_append (firings_of (take i order)) (repeated unit.turns unit.nodes.items)
     other in
     omega (arith, more, count_repeated unit.turns unit.nodes.items other)
+
+-- some of an order's firings are no more than all
+firings_first : (order : List units.Unit.Unit) (i other : ℕ)
+    → firing_count (firings_of (take i order)) other ≤ firing_count (firings_of order) other
+firings_first order i other =
+    omega (
+      arith,
+      ap (λ (l : List units.Unit.Unit). firing_count (firings_of l) other)
+          (take-append-drop i order),
+      firings_joined (take i order) (drop i order) other,
+    )
+
+-- one unit more is no more than all
+pub unit_fits : (order : List units.Unit.Unit) (i : ℕ) (unit : units.Unit.Unit) (other : ℕ)
+    → i < length order → unit ≡ get_or order i unit
+    → firing_count (firings_of (take i order)) other + unit.turns * firing_count unit.nodes.items other
+    ≤ firing_count (firings_of order) other
+unit_fits order i unit other less is =
+    omega (arith, units_next order i unit other less is, firings_first order (i + 1) other)
+
+list_first : (nodes : List ℕ) (i other : ℕ)
+    → firing_count (take i nodes) other ≤ firing_count nodes other
+list_first nodes i other =
+    omega (
+      arith,
+      ap (λ (l : List ℕ). firing_count l other) (take-append-drop i nodes),
+      firing_count_append (take i nodes) (drop i nodes) other,
+    )
+
+-- and one node more of a list
+pub node_fits : (turns : ℕ) (nodes : List ℕ) (i : ℕ) → i < length nodes
+    → turns * firing_count (take i nodes) (get_or nodes i 0) + turns
+    ≤ turns * firing_count nodes (get_or nodes i 0)
+node_fits turns nodes i less =
+    let node : ℕ = get_or nodes i 0 in
+    omega (
+      arith,
+      list_next turns nodes i node less,
+      turns_same turns node node refl,
+      mul-le-mul_left turns (list_first nodes (i + 1) node),
+    )

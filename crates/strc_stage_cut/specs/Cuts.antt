@@ -3,10 +3,9 @@ use Rattle.std.specs.Prelude.{◌≡◌, ℕ, suc, ◌≤◌, List, length, map}
 use Rattle.strc_elab_graph.specs.Graphs.{IsGraph}
 use Rattle.strc_elab_graph.specs.Tapes.{tape_nodes}
 use Rattle.strc_stage_plan.specs.Plans.{IsPlan, PlanParts, transformed_of}
-use Rattle.strc_stage_steps.specs.Runnings.{round_pushes}
-use Rattle.strc_stage_steps.specs.Plans.{IsCut, running_of}
+use Rattle.strc_stage_steps.specs.Plans.{IsCut}
 use Rattle.strc_stage_cut.specs.Bounds.{bound_in, last_of}
-use Rattle.strc_stage_cut.specs.Links.{links_of}
+use Rattle.strc_stage_cut.specs.Links.{items_between, links_of}
 use Rattle.strc_stage_cut.specs.declared.plan_cut.Cut.{Cut}
 
 -- A plan whose stages have these bounds.
@@ -19,5 +18,5 @@ pub record IsCutAt (plan : PlanParts) (bounds : List ℕ) : Type 0 where
 pub record IsCutting (plan : PlanParts) (cut : Cut) : Type 0 where
   pub at : IsCutAt plan cut.bounds.items
   pub links : cut.links.items ≡ links_of plan cut.bounds.items
-  pub rooms : cut.rooms.items ≡ map (round_pushes (running_of plan)) (transformed_of plan).channels
+  pub rooms : cut.rooms.items ≡ map (items_between plan cut.bounds.items) (transformed_of plan).channels
   pub tapes : cut.tapes.items ≡ tape_nodes (transformed_of plan).nodes

@@ -4,6 +4,7 @@ use Rattle.std.specs.Prelude.{if◌then◌else◌}
 use Rattle.strc_elab_graph.specs.Graphs.{Channel}
 use Rattle.strc_stage_plan.specs.Plans.{PlanParts, transformed_of}
 use Rattle.strc_elab_dataflow.specs.Ranges.{stage_within}
+use Rattle.strc_stage_steps.specs.Beginnings.{crosses}
 use Rattle.strc_stage_steps.specs.Runnings.{round_pushes}
 use Rattle.strc_stage_steps.specs.Plans.{running_of}
 use Rattle.strc_stage_steps.specs.CrossingBlocks.{raised}
@@ -14,11 +15,18 @@ use Rattle.strc_stage_cut.specs.declared.links.Link.{Link}
 use Rattle.strc_stage_cut.specs.declared.links.Side.{Side}
 use Rattle.strc_stage_cut.specs.declared.links.Side.TheVariants as side
 
+-- How many items a channel carries in a round from stage to stage. One within a stage needs no room
+-- for that.
+abbrev pub items_between : PlanParts → (bounds : List ℕ) → Channel → ℕ
+items_between plan bounds channel =
+    if crosses (bound_in bounds) (last_of bounds) channel then round_pushes (running_of plan) channel
+    else 0
+
 abbrev pub link_of : PlanParts → (bounds : List ℕ) → Channel → Link
 link_of plan bounds channel = record {
   from = stage_within (bound_in bounds) (last_of bounds) channel.source.node;
   to = stage_within (bound_in bounds) (last_of bounds) channel.target.node;
-  room = round_pushes (running_of plan) channel;
+  room = items_between plan bounds channel;
 }
 
 abbrev pub links_of : PlanParts → (bounds : List ℕ) → List Link

@@ -8,7 +8,8 @@ ghost use Rattle.strc_stage_cut.specs.Links.{blocks_in, room_of};
 use std::alloc::{AllocError, Global};
 use strc_stage_steps::{Block, Crossing};
 
-/// A channel: the stages where it begins and ends, and how many items its source pushes in a round.
+/// A channel: the stages where it begins and ends, and how many items it carries in a round from the
+/// one to the other.
 #[derive(Clone, Copy)]
 pub struct Link {
     pub from: usize,
@@ -96,7 +97,7 @@ fn block_of(link: Link, stage: usize) -> Block
     }
 }
 
-/// How many items each channel's source pushes in a round.
+/// How many items each channel carries in a round from stage to stage.
 pub(crate) fn rooms(alloc: Global, links: &[Link]) -> Result<Vec<u32>, AllocError>
     ensures { IfOk result (λ rooms. rooms.items ≡ map room_of links.now) }
 {

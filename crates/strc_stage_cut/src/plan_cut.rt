@@ -1,6 +1,6 @@
 // A plan, cut into stages.
 
-ghost use Rattle.std.specs.Prelude.{◌≡◌, ◌<◌, ◌≤◌, ◌-◌, IfOk, length, map};
+ghost use Rattle.std.specs.Prelude.{◌≡◌, ◌<◌, ◌≤◌, ◌-◌, ◌^◌, All, IfOk, length, map};
 ghost use Rattle.strc_balance.specs.Balance.{count_at};
 ghost use Rattle.strc_elab_graph.specs.NodeView.{channel_view};
 ghost use Rattle.strc_elab_dataflow.specs.Ranges.{stage_within};
@@ -8,13 +8,14 @@ ghost use Rattle.strc_stage_cut.specs.Bounds.{bound_in, last_of};
 ghost use Rattle.strc_stage_cut.specs.Cuts.{IsCutting};
 ghost use Rattle.strc_stage_cut.specs.Launches.{bounds_of};
 ghost use Rattle.strc_stage_cut.specs.Links as spec;
+ghost use Rattle.strc_stage_plan.specs.Plans.{transformed_of};
 ghost use Rattle.strc_stage_steps.specs.Plans.{running_of};
 
 use crate::links::{Link, rooms};
-use crate::pushes::round_pushes;
+use crate::pushes::items_between;
 use crate::round_firings::firing_counts;
 use crate::tapes::tape_list;
-use std::alloc::Global;
+use std::alloc::{AllocError, Global};
 use strc_elab_graph::graph::Channel;
 use strc_lex_names::memory::NoMemory;
 use strc_stage_plan::bounds::stage_bounds;
@@ -27,7 +28,7 @@ pub(crate) struct Cut {
     pub bounds: Vec<usize>,
     /// The channels, by the stages that they join.
     pub links: Vec<Link>,
-    /// How many items each channel's source pushes in a round.
+    /// How many items each channel carries in a round from stage to stage.
     pub rooms: Vec<u32>,
     /// The nodes that give words.
     pub tapes: Vec<usize>,
@@ -64,37 +65,36 @@ fn links_of(
     plan: &Plan,
     counts: &[u32],
     bounds: &[usize],
-) -> Result<Vec<Link>, NoMemory>
+) -> Result<Vec<Link>, AllocError>
     requires bounds { 2 ≤ length bounds.now }
     requires counts { count_at counts.now ≡ (running_of plan.now).counts }
+    requires few { All (λ channel. spec.items_between plan.now bounds.now channel < 2 ^ 32)
+        (transformed_of plan.now).channels }
     ensures { IfOk result (λ links. links.items ≡ spec.links_of plan.now bounds.now) }
 {
     let channels = plan.transformed_graph().channels();
     let mut links = Vec::with_capacity(alloc, channels.len())?;
     for channel in channels {
-        links.push(link_of(plan, counts, bounds, channel)?)?;
+        links.push(link_of(plan, counts, bounds, channel))?;
     }
     Ok(links)
 }
 
 /// A channel, by the stages that it joins.
-fn link_of(
-    plan: &Plan,
-    counts: &[u32],
-    bounds: &[usize],
-    channel: &Channel,
-) -> Result<Link, NoMemory>
+fn link_of(plan: &Plan, counts: &[u32], bounds: &[usize], channel: &Channel) -> Link
     requires bounds { 2 ≤ length bounds.now }
     requires counts { count_at counts.now ≡ (running_of plan.now).counts }
-    ensures { IfOk result (λ link. link
-        ≡ spec.link_of plan.now bounds.now (channel_view channel.now)) }
+    requires few { spec.items_between plan.now bounds.now (channel_view channel.now) < 2 ^ 32 }
+    ensures { result ≡ spec.link_of plan.now bounds.now (channel_view channel.now) }
 {
     let nodes = plan.transformed_graph().nodes();
-    Ok(Link {
-        from: stage_at(bounds, channel.source.node as usize),
-        to: stage_at(bounds, channel.target.node as usize),
-        room: round_pushes(nodes, counts, channel.source)?,
-    })
+    let from = stage_at(bounds, channel.source.node as usize);
+    let to = stage_at(bounds, channel.target.node as usize);
+    Link {
+        from,
+        to,
+        room: items_between(nodes, counts, from != to, channel.source),
+    }
 }
 
 /// The stage of a node: the last that begins at it or before it.

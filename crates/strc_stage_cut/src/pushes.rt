@@ -1,6 +1,6 @@
 // How many items channels carry in a round.
 
-ghost use Rattle.std.specs.Prelude.{◌≡◌, ◌*◌, ◌<◌, ◌^◌, IfOk, slice_index};
+ghost use Rattle.std.specs.Prelude.{◌≡◌, ◌*◌, ◌<◌, ◌^◌, if◌then◌else◌, slice_index};
 ghost use Rattle.strc_balance.specs.Balance.{count_at};
 ghost use Rattle.strc_startup.specs.Rates.{push_at};
 ghost use Rattle.strc_elab_graph.specs.NodeView.{node_view};
@@ -8,25 +8,30 @@ ghost use Rattle.std.specs.Prelude.{map};
 
 use strc_elab_graph::graph::{Node, Port};
 use strc_elab_graph::rates::pushes_at;
-use strc_lex_names::memory::NoMemory;
 
-/// How many items come from a port in a round, where nodes fire so often; more than 32 bits hold
-/// are too many for memory.
-pub(crate) fn round_pushes(nodes: &[Node], counts: &[u32], port: Port) -> Result<u32, NoMemory>
-    ensures { IfOk result (λ pushes. pushes
-        ≡ count_at counts.now port.node * push_at (map node_view nodes.now) 1 port) }
+/// How many items a channel from this port carries in a round from stage to stage, where nodes fire
+/// so often and it crosses from one to another or doesn't.
+pub(crate) fn items_between(nodes: &[Node], counts: &[u32], crosses: bool, port: Port) -> u32
+    requires few { (if crosses then
+        count_at counts.now port.node * push_at (map node_view nodes.now) 1 port else 0) < 2 ^ 32 }
+    ensures { result ≡ (if crosses then
+        count_at counts.now port.node * push_at (map node_view nodes.now) 1 port else 0) }
+{
+    if crosses {
+        round_pushes(nodes, counts, port)
+    } else {
+        0
+    }
+}
+
+/// How many items come from a port in a round, where nodes fire so often.
+fn round_pushes(nodes: &[Node], counts: &[u32], port: Port) -> u32
+    requires few { count_at counts.now port.node * push_at (map node_view nodes.now) 1 port
+        < 2 ^ 32 }
+    ensures { result ≡ count_at counts.now port.node * push_at (map node_view nodes.now) 1 port }
 {
     let count = count_of(counts, port.node as usize);
-    match u128::from(count).checked_mul(push_of(nodes, port)) {
-        Some(pushes) => {
-            if pushes < 1 << 32 {
-                Ok(pushes as u32)
-            } else {
-                Err(NoMemory)
-            }
-        }
-        None => Err(NoMemory),
-    }
+    (u128::from(count) * push_of(nodes, port)) as u32
 }
 
 /// How often a node fires; past the last node never.

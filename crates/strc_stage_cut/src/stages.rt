@@ -71,8 +71,7 @@ pub fn cut(alloc: Global, plan: &Plan, workers: u32) -> Result<Stages, NoMemory>
 
 /// Start-up of a plan on this thread; then its nodes are parted among the stages.
 ///
-/// Err only where memory runs out, or where a channel carries more items in a round than memory can
-/// hold.
+/// Err only where memory runs out.
 pub fn launch(alloc: Global, stages: Stages, input: &[i32], rounds: u32) -> Result<Launch, NoMemory>
     requires rounds { 0 < rounds }
     ensures { IfOk result (IsLaunch stages.plan input.now rounds stages.workers) }
