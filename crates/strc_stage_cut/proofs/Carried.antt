@@ -1,5 +1,5 @@
--- What a channel carries in a round from stage to stage: all firings of its source come before those
--- of its target, so that its buffer holds them at once.
+-- What a channel carries in a round from stage to stage: all firings of its source come before
+-- those of its target, so that its buffer holds them at once.
 use Rattle.std.proofs.Common.{◌≡◌, refl, sym, ap, ap₂, ◌∙◌, subst, ℕ, zero, suc, ◌+◌, ◌-◌, ◌*◌}
 use Rattle.std.proofs.Common.{◌<◌, ◌≤◌, ◌^◌, arith, Bool, true, false, cond, List, [], ◌∷◌, ◌++◌}
 use Rattle.std.proofs.Common.{length, map, get_or, All, append_assoc, append-nil, Some, slice_get}

@@ -88,7 +88,8 @@ module _ (plan : PlanParts) (bounds : List ℕ) (stage : ℕ) where
   rooms_from [] = refl
   rooms_from (channel ∷ channels) =
       room_step (crosses (bound_in bounds) (last_of bounds) channel)
-      (round_pushes (running_of plan) channel) (block_before stage (link_of plan bounds channel)).held
+      (round_pushes (running_of plan) channel)
+      (block_before stage (link_of plan bounds channel)).held
       (blocks_in stage (map (link_of plan bounds) channels))
       (rooms_of (crosses (bound_in bounds) (last_of bounds)) (running_of plan) channels)
       (rooms_from channels)

@@ -82,7 +82,8 @@ firings_first order i other =
 -- one unit more is no more than all
 pub unit_fits : (order : List units.Unit.Unit) (i : ℕ) (unit : units.Unit.Unit) (other : ℕ)
     → i < length order → unit ≡ get_or order i unit
-    → firing_count (firings_of (take i order)) other + unit.turns * firing_count unit.nodes.items other
+    → firing_count (firings_of (take i order)) other
+    + unit.turns * firing_count unit.nodes.items other
     ≤ firing_count (firings_of order) other
 unit_fits order i unit other less is =
     omega (arith, units_next order i unit other less is, firings_first order (i + 1) other)

@@ -1,5 +1,5 @@
--- How often nodes fire in a plan's round: after fission and fusion no node fires more often than the
--- one that it is a part of did before, so the limit of counts is theirs too.
+-- How often nodes fire in a plan's round: after fission and fusion no node fires more often than
+-- the one that it is a part of did before, so the limit of counts is theirs too.
 use Rattle.std.proofs.Common.{◌≡◌, refl, sym, ap, ◌∙◌, subst, ℕ, suc, ◌+◌, ◌-◌, ◌*◌, ◌<◌, ◌≤◌, ◌^◌}
 use Rattle.std.proofs.Common.{arith, true, false, List}
 use Rattle.std.proofs.lemmas.Bool.{ltb-true}

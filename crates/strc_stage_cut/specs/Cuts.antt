@@ -18,5 +18,6 @@ pub record IsCutAt (plan : PlanParts) (bounds : List ℕ) : Type 0 where
 pub record IsCutting (plan : PlanParts) (cut : Cut) : Type 0 where
   pub at : IsCutAt plan cut.bounds.items
   pub links : cut.links.items ≡ links_of plan cut.bounds.items
-  pub rooms : cut.rooms.items ≡ map (items_between plan cut.bounds.items) (transformed_of plan).channels
+  pub rooms : cut.rooms.items
+      ≡ map (items_between plan cut.bounds.items) (transformed_of plan).channels
   pub tapes : cut.tapes.items ≡ tape_nodes (transformed_of plan).nodes

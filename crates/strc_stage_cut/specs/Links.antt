@@ -19,8 +19,8 @@ use Rattle.strc_stage_cut.specs.declared.links.Side.TheVariants as side
 -- for that.
 abbrev pub items_between : PlanParts → (bounds : List ℕ) → Channel → ℕ
 items_between plan bounds channel =
-    if crosses (bound_in bounds) (last_of bounds) channel then round_pushes (running_of plan) channel
-    else 0
+    if crosses (bound_in bounds) (last_of bounds) channel
+    then round_pushes (running_of plan) channel else 0
 
 abbrev pub link_of : PlanParts → (bounds : List ℕ) → Channel → Link
 link_of plan bounds channel = record {

@@ -8,8 +8,8 @@ ghost use Rattle.strc_stage_cut.specs.Links.{blocks_in, room_of};
 use std::alloc::{AllocError, Global};
 use strc_stage_steps::{Block, Crossing};
 
-/// A channel: the stages where it begins and ends, and how many items it carries in a round from the
-/// one to the other.
+/// A channel: the stages where it begins and ends, and how many items it carries in a round from
+/// the one to the other.
 #[derive(Clone, Copy)]
 pub struct Link {
     pub from: usize,
