@@ -1,0 +1,3 @@
+pub mod C
+pub mod Meaning
+pub mod Spelling
