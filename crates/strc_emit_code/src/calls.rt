@@ -48,7 +48,7 @@ fn place_among(names: &[Name], name: &Name) -> Result<Option<u32>, NoMemory>
 }
 
 /// Where the first name is that is this one, among another one and those after it.
-#[tactic(auto, using(strc_lex_names::proofs::Scopes::bytes_eq_same, strc_lex_names::proofs::Scopes::bytes_eq_other))]
+#[tactic(auto, using(crate::proofs::Names::same_names, crate::proofs::Names::other_names))]
 fn place_with(other: &Name, name: &Name, later: Option<u32>) -> Result<Option<u32>, NoMemory>
     ensures { IfOk result (λ place. place ≡ (if bytes_eq other.now name.now then Some 0
         else option_map suc later)) }

@@ -1,4 +1,4 @@
--- A stage that gives no words never stops for want of memory.
+-- A stage that gives no words never stops out of memory.
 use Rattle.std.proofs.Common.{◌≡◌, ◌≢◌, ◌∙◌, refl, sym, ap, subst, Bool, true, false, true≢false}
 use Rattle.std.proofs.Common.{cond, ◌||◌, Option, Some, None, is_some, Err, inl, inr}
 use Rattle.strc_sched_laws.specs.Machine.{MachineView}

@@ -1,4 +1,4 @@
--- Where a stage's step is stopped for want of memory.
+-- Where a stage's step is stopped out of memory.
 use Rattle.std.proofs.Common.{◌≡◌, ◌∙◌, sym, ap, ℕ, List, Bool, true, false, true≢false, Option}
 use Rattle.std.proofs.Common.{Some, None, is_some, Err}
 use Rattle.strc_sched_machine.specs.Memory.{ComesToWord, WantsWordOfOrder}
@@ -22,7 +22,7 @@ none_wants why none e = absurd (none_some stops.NoMemory (sym none ∙ e))
 pub stopped_wants : {A : Type 0} (why : Option Stop) → is_some why ≡ true → why ≡ None → A
 stopped_wants why is none = absurd (true≢false (sym is ∙ ap is_some none))
 
--- A machine that was stopped for want of memory has come to a word.
+-- A machine that was stopped out of memory has come to a word.
 pub told_wants : (circuit : CircuitView) (order : List ℕ) (before : MachineView)
     (why : machines.Stop) (result : Stop) → result ≡ told why
     → WantsWordOfOrder circuit order before (Err why)

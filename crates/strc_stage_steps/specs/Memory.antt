@@ -17,12 +17,12 @@ StageComesToWord state load =
     (machine : MachineView) × (state.machine ≡ Some machine)
     × ComesToWord state.circuit state.order (machine_entered state.entering load machine)
 
--- The firings of a round end for want of memory only there.
+-- The firings of a round end out of memory only there.
 abbrev pub WantsWordOfStage : StageState → Load → Option Stop → Type 0
 WantsWordOfStage state load why = why ≡ Some stop.NoMemory → StageComesToWord state load
 
--- Where the parcel that comes isn't stopped and the stage has no stop, the result is stopped for
--- want of memory only there.
+-- Where the parcel that comes isn't stopped and the stage has no stop, the result is stopped out
+-- of memory only there.
 abbrev pub StopsOnlyForWords : Stage StageState Stop → (own result : ParcelView) → Type 0
 StopsOnlyForWords stage own result =
     own.stop ≡ None → stage.stop ≡ None → WantsWordOfStage stage.inner own.load result.stop
@@ -35,12 +35,12 @@ pub record IsStep (before : StageParts) (own : ParcelView) (after : StageParts)
 
 -- ---- stages that give no words
 
--- No node of a stage gives words, and it hasn't stopped for want of memory.
+-- No node of a stage gives words, and it hasn't stopped out of memory.
 pub record IsQuiet (stage : Stage StageState Stop) : Type 0 where
   pub nodes : AreQuiet stage.inner.circuit stage.inner.order
   pub stop : stage.stop ≢ Some stop.NoMemory
 
--- Such a stage stays so at each step, and never stops for want of memory: it makes a parcel with
+-- Such a stage stays so at each step, and never stops out of memory: it makes a parcel with
 -- that stop only of one that has it.
 abbrev pub QuietStagesWantNoMemory : Type 0
 QuietStagesWantNoMemory =

@@ -16,7 +16,7 @@ use std::alloc::Global;
 use strc_sched_machine::machine;
 use strc_stage_core::{Parcel, Stop};
 
-/// A parcel becomes another one, and the stage is a round further. It is stopped for want of memory
+/// A parcel becomes another one, and the stage is a round further. It is stopped out of memory
 /// only where one of its nodes has a word to give.
 pub(crate) fn step_parts(stage: &mut StageParts, alloc: Global, parcel: Parcel) -> Parcel
     requires is { IsStage stage.old }
@@ -73,7 +73,7 @@ fn run(stage: &mut StageParts, alloc: Global, parcel: &mut Parcel)
 }
 
 /// The firings of a round: the parcel's items go into the rings, and what leaves goes into the
-/// parcel. Or why they stop: for want of memory only where a firing has a word to give.
+/// parcel. Or why they stop: out of memory only where a firing has a word to give.
 fn work(stage: &mut StageParts, alloc: Global, parcel: &mut Parcel) -> Option<Stop>
     requires is { IsStage stage.old }
     requires whole { stage.old.broken ≡ false }
