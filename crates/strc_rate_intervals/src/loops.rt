@@ -59,12 +59,14 @@ pub fn counted_loop<'a>(
     ensures interval { IfSome result (λ found. found.interval ≡ turns_interval (loop_view found)) }
 {
     let first = first_of(first, names)?;
+    let bound = option_bound(condition, first.name)?;
+    let step = move_of(step, first.name)?;
+    let counted = loop_of(first.name, first.value, bound, step)?;
+    // The body may be long, so it is looked at last.
     if statement_writes(body, first.name) {
         return None;
     }
-    let bound = option_bound(condition, first.name)?;
-    let step = move_of(step, first.name)?;
-    loop_of(first.name, first.value, bound, step)
+    Some(counted)
 }
 
 /// The first part of a loop: one local variable is given a constant, and nothing else.
