@@ -196,10 +196,9 @@ abbrev mutual
       ++ stmts_sites (intervals_after intervals first)
       (advance popped (stmt_counts (names_of intervals) first)) rest
 
--- whether a firing needs no test of a peek: it stays within its window, or no run comes to it
+-- whether a peek stays within its window; one that no run comes to isn't looked at
 abbrev pub is_closed : PeekBounds → Bool
 is_closed Closed = true
-is_closed Unreached = true
 is_closed _ = false
 
 -- what is known of each peek of a body before a window, in order of the text

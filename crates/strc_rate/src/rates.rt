@@ -28,8 +28,8 @@ pub struct BodyRates {
     pub pop: u32,
     /// How many items a firing may look at.
     pub window: u32,
-    /// Of each peek of the text, in its order, whether a firing needs no test of it: it stays
-    /// within its window, or no run comes to it.
+    /// Of each peek of the text, in its order, whether it is closed: no firing looks outside its
+    /// window by it. One that no run comes to isn't looked at, and isn't closed.
     pub closed: Vec<bool>,
 }
 

@@ -163,12 +163,13 @@ pub(crate) fn add_in_turns(
     Ok(())
 }
 
-/// Whether a firing needs no test of a peek: it stays within its window, or no run comes to it.
+/// Whether a peek stays within its window. One that no run comes to isn't looked at, so it isn't
+/// said to be closed.
 pub fn is_closed(sight: PeekBounds) -> bool
     ensures { result ≡ spec.is_closed sight }
 {
     match sight {
-        PeekBounds::Closed | PeekBounds::Unreached => true,
-        PeekBounds::Outside | PeekBounds::Open => false,
+        PeekBounds::Closed => true,
+        PeekBounds::Unreached | PeekBounds::Outside | PeekBounds::Open => false,
     }
 }

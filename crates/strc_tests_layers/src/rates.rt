@@ -20,7 +20,7 @@ fn rates_of(alloc: Global, bodies: &str) -> Result<Rates, Fail> {
 const CLOSED: &str = "\
 push 1 pop 1 peek 3 { push(peek(0) + peek(2)); pop(); } => cc
 push 1 pop 1 { push(peek(f)); pop(); } => o
-push 1 pop 1 { if (1 < 0) f = peek(9); else f = peek(f); push(peek(0)); pop(); } => coc
+push 1 pop 1 { if (1 < 0) f = peek(9); else f = peek(f); push(peek(0)); pop(); } => ooc
 push 1 pop 1 { push(peek(peek(0))); pop(); } => co
 push 1 pop 1 { push(peek(1 / 0)); pop(); } => o
 push 1 pop 4 { f = 0; for (int i = 0; i < 4; i++) f += peek(i); \
