@@ -5,7 +5,8 @@
 // with, NAME.status, if that isn't 0; and what a person reads of it, NAME.message, if there is one.
 // Where a case's text is run by one worker, it is to come to the same by several, with copies and
 // with fused units. A case with a file NAME.pieces is broken at each place too: its text cut at
-// each byte, and devices that take so many bytes at a time failing at each call.
+// each byte, and devices that take so many bytes at a time failing at each call. A file
+// NAME.refused is for scripts/refuse-memory.
 // Gives a line for each case that differs, and at the end how many do; and the same of the places
 // at which cases were broken, and of devices that fail or take little at a time. There is no
 // theorem here; the values are those of the language's rules.
