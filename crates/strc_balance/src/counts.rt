@@ -27,6 +27,13 @@ impl Model for Counts {
     ghost invariant = { λ c. IsWithinLimit c.counts.items };
 }
 
+/// How often a node fires; past the last node never.
+pub fn count_of(counts: &[u32], node: usize) -> u32
+    ensures { result ≡ slice_index counts.now node }
+{
+    if node < counts.len() { counts[node] } else { 0 }
+}
+
 impl Counts {
     /// The counts of nodes in order of their numbers.
     pub fn new(counts: Vec<u32>) -> Counts

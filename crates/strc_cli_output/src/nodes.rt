@@ -146,7 +146,7 @@ fn name_of(graph: &Graph, node: usize) -> &[u8]
 }
 
 /// How often a node fires.
-fn count_of(counts: &[u32], node: usize) -> u32
+pub(crate) fn count_of(counts: &[u32], node: usize) -> u32
     ensures { result ≡ slice_index_or counts.now node 0 }
 {
     if node < counts.len() { counts[node] } else { 0 }

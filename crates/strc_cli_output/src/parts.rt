@@ -1,9 +1,10 @@
 // How often the nodes of a graph after fission fire.
 
-ghost use Rattle.std.specs.Prelude.{◌≡◌, IfOk, slice_index_or};
+ghost use Rattle.std.specs.Prelude.{◌≡◌, IfOk};
 ghost use Rattle.strc_elab_graph.specs.NodeView.{node_view};
 ghost use Rattle.strc_cli_output.specs.Parts as spec;
 
+use crate::nodes::count_of;
 use std::alloc::{AllocError, Global};
 use strc_elab_graph::graph::Node;
 use strc_fiss::split::Origin;
@@ -74,11 +75,4 @@ fn count_before(origins: &[Origin], counts: &[u32], number: usize) -> u32
         Some(origin) => count_of(counts, origin.node as usize),
         None => 0,
     }
-}
-
-/// How often a node fires.
-fn count_of(counts: &[u32], node: usize) -> u32
-    ensures { result ≡ slice_index_or counts.now node 0 }
-{
-    if node < counts.len() { counts[node] } else { 0 }
 }

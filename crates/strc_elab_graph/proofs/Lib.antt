@@ -3,3 +3,4 @@ pub mod Works
 pub mod Idle
 pub mod Firings
 pub mod Quiet
+pub mod TapeNodes

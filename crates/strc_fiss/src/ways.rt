@@ -3,7 +3,6 @@
 ghost use Rattle.std.specs.Prelude.{◌≡◌, ℕ, ◌<◌, ◌≤◌, ◌/◌, ◌^◌, ◌&&◌, ◌||◌, nat_eq, nat_lt};
 ghost use Rattle.std.specs.Prelude.{All, IfOk, map, cond};
 ghost use Rattle.std.specs.Prelude.{length, get_or, slice_get, false, not, Some};
-ghost use Rattle.strc_balance.specs.Balance.{count_at};
 ghost use Rattle.strc_fuse.specs.Units.{is_outside};
 ghost use Rattle.strc_elab_graph.specs.Graphs as graphs;
 ghost use Rattle.strc_elab_graph.specs.Graphs.{JoinsPorts};
@@ -14,7 +13,7 @@ ghost use Rattle.strc_work_writes.specs.Stateless.{is_stateless};
 ghost use Rattle.strc_fiss.specs.Ways as spec;
 
 use std::alloc::{AllocError, Global};
-use strc_balance::counts::Counts;
+use strc_balance::counts::{Counts, count_of};
 use strc_elab_graph::graph::{Channel, Fission, Graph, Node};
 use strc_lex_names::memory::NoMemory;
 use strc_parse_tree::tree::ItemType;
@@ -72,7 +71,7 @@ fn share_at(
         alloc,
         &graph.nodes()[node],
         alone,
-        count_of(counts, node),
+        count_of(counts.as_slice(), node),
         ways,
     )
 }
@@ -114,14 +113,6 @@ fn mark(marks: &mut [bool], channel: &Channel)
     if channel.source.node == channel.target.node {
         marks[channel.source.node as usize] = true;
     }
-}
-
-/// How often a node fires in a round; 0 where nothing is said of it.
-fn count_of(counts: &Counts, node: usize) -> u32
-    ensures { result ≡ count_at counts.now node }
-{
-    let counts = counts.as_slice();
-    if node < counts.len() { counts[node] } else { 0 }
 }
 
 /// How the firings of a node are dealt, where it stands outside feedback loops or not, and fires so

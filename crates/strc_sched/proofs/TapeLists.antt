@@ -6,8 +6,7 @@ use Rattle.std.proofs.Common.{inl}
 use Rattle.std.proofs.Common.{inr, ◌⊎◌, append_assoc, add-one}
 use Rattle.std.specs.Prelude.{Some, slice_get, slice_index, if◌then◌else◌}
 use Rattle.std.proofs.lemmas.Bool.{cases_eq}
-use Rattle.std.proofs.lemmas.List.{drop_more, get_or-set_same, get_or-set_other, length-map}
-use Rattle.std.proofs.lemmas.List.{get_or-map}
+use Rattle.std.proofs.lemmas.List.{get_or-set_same, get_or-set_other, length-map}
 use Rattle.strc_work_meaning.specs.declared.word.Word.{Word}
 use Rattle.strc_elab_graph.specs.Graphs.{NodeCode, gives_words}
 use Rattle.strc_elab_graph.specs.NodeView.{node_view}
@@ -17,6 +16,7 @@ use Rattle.strc_sched_laws.specs.Machine.{words_at}
 use Rattle.strc_sched_machine.specs.Running.{words_of}
 use Rattle.strc_sched_machine.proofs.WordLists.{words_set}
 use Rattle.strc_elab_graph.specs.Tapes.{tape_nodes_from}
+use Rattle.strc_elab_graph.proofs.TapeNodes.{from_here}
 use Rattle.strc_sched.specs.Tapes.{AreMarked, tapes_from}
 use Rattle.std.specs.declared.vec.Vec.{Vec}
 use Rattle.std.specs.declared.alloc.Global.{Global}
@@ -120,81 +120,42 @@ marked_next tapes count lengths words node own at is there below place less =
         by_place (inl last) = absurd (differs (ap (λ n. get_or tapes n 0) last ∙ sym at))
         by_place (inr before) = omega (arith, less, before)
 
--- the nodes from a place on
+-- the tapes from a place on
 module _ (nodes : List Node) (node : ℕ) (own : Node) (less : node < length nodes)
-    (is : own ≡ get_or nodes node own) where
-  from_here : drop node (map node_view nodes)
-      ≡ node_view own ∷ drop (node + 1) (map node_view nodes)
-  from_here =
-      drop_more (map node_view nodes) node (node_view own)
-      (let many = length-map nodes node_view in omega (arith, less, many))
-      ∙ ap (λ c. c ∷ drop (node + 1) (map node_view nodes))
-      (get_or-map node_view nodes node own (node_view own) less ∙ ap node_view (sym is))
+    (is : own ≡ get_or nodes node own) (words : ℕ → List Word) where
+  abbrev pub tapes_later : List TapeView
+  tapes_later = tapes_from (node + 1) (drop (node + 1) (map node_view nodes)) words
 
-  abbrev pub nodes_later : List ℕ
-  nodes_later = tape_nodes_from (node + 1) (drop (node + 1) (map node_view nodes))
-
-  nodes_from : tape_nodes_from node (drop node (map node_view nodes))
-      ≡ (if gives_words (node_view own) then node ∷ nodes_later else nodes_later)
-  nodes_from =
-      ap (tape_nodes_from node) from_here
+  all_from : tapes_from node (drop node (map node_view nodes)) words
+      ≡ (if gives_words (node_view own) then tape node (words node) ∷ tapes_later
+      else tapes_later)
+  all_from =
+      ap (λ l. tapes_from node l words) (from_here nodes node own less is)
       ∙ ap (λ n. if gives_words (node_view own)
-      then node ∷ tape_nodes_from n (drop (node + 1) (map node_view nodes))
-      else tape_nodes_from n (drop (node + 1) (map node_view nodes))) (sym (add-one node))
+      then tape node (words node)
+      ∷ tapes_from n (drop (node + 1) (map node_view nodes)) words
+      else tapes_from n (drop (node + 1) (map node_view nodes)) words) (sym (add-one node))
 
-  pub node_here : (test : Bool) → test ≡ gives_words (node_view own) → test ≡ true
-      → (before whole : List ℕ)
-      → before ++ tape_nodes_from node (drop node (map node_view nodes)) ≡ whole
-      → (before ++ node ∷ []) ++ nodes_later ≡ whole
-  node_here test e gives before whole all =
-      append_assoc before (node ∷ []) nodes_later
+  pub tape_here : (test : Bool) → test ≡ gives_words (node_view own) → test ≡ true
+      → (before whole : List TapeView)
+      → before ++ tapes_from node (drop node (map node_view nodes)) words ≡ whole
+      → (before ++ tape node (words node) ∷ []) ++ tapes_later ≡ whole
+  tape_here test e gives before whole all =
+      append_assoc before (tape node (words node) ∷ []) tapes_later
       ∙ ap (λ l. before ++ l)
-      (sym (nodes_from ∙ ap (λ t. if t then node ∷ nodes_later else nodes_later) (sym e ∙ gives)))
+      (sym (all_from ∙ ap (λ t. if t then tape node (words node) ∷ tapes_later
+      else tapes_later) (sym e ∙ gives)))
       ∙ all
 
-  pub no_node_here : (test : Bool) → test ≡ gives_words (node_view own) → test ≡ false
-      → (before whole : List ℕ)
-      → before ++ tape_nodes_from node (drop node (map node_view nodes)) ≡ whole
-      → before ++ nodes_later ≡ whole
-  no_node_here test e none before whole all =
+  pub no_tape_here : (test : Bool) → test ≡ gives_words (node_view own) → test ≡ false
+      → (before whole : List TapeView)
+      → before ++ tapes_from node (drop node (map node_view nodes)) words ≡ whole
+      → before ++ tapes_later ≡ whole
+  no_tape_here test e none before whole all =
       ap (λ l. before ++ l)
-      (sym (nodes_from ∙ ap (λ t. if t then node ∷ nodes_later else nodes_later) (sym e ∙ none)))
+      (sym (all_from ∙ ap (λ t. if t then tape node (words node) ∷ tapes_later
+      else tapes_later) (sym e ∙ none)))
       ∙ all
-
-  module _ (words : ℕ → List Word) where
-    abbrev pub tapes_later : List TapeView
-    tapes_later = tapes_from (node + 1) (drop (node + 1) (map node_view nodes)) words
-
-    all_from : tapes_from node (drop node (map node_view nodes)) words
-        ≡ (if gives_words (node_view own) then tape node (words node) ∷ tapes_later
-        else tapes_later)
-    all_from =
-        ap (λ l. tapes_from node l words) from_here
-        ∙ ap (λ n. if gives_words (node_view own)
-        then tape node (words node)
-        ∷ tapes_from n (drop (node + 1) (map node_view nodes)) words
-        else tapes_from n (drop (node + 1) (map node_view nodes)) words) (sym (add-one node))
-
-    pub tape_here : (test : Bool) → test ≡ gives_words (node_view own) → test ≡ true
-        → (before whole : List TapeView)
-        → before ++ tapes_from node (drop node (map node_view nodes)) words ≡ whole
-        → (before ++ tape node (words node) ∷ []) ++ tapes_later ≡ whole
-    tape_here test e gives before whole all =
-        append_assoc before (tape node (words node) ∷ []) tapes_later
-        ∙ ap (λ l. before ++ l)
-        (sym (all_from ∙ ap (λ t. if t then tape node (words node) ∷ tapes_later
-        else tapes_later) (sym e ∙ gives)))
-        ∙ all
-
-    pub no_tape_here : (test : Bool) → test ≡ gives_words (node_view own) → test ≡ false
-        → (before whole : List TapeView)
-        → before ++ tapes_from node (drop node (map node_view nodes)) words ≡ whole
-        → before ++ tapes_later ≡ whole
-    no_tape_here test e none before whole all =
-        ap (λ l. before ++ l)
-        (sym (all_from ∙ ap (λ t. if t then tape node (words node) ∷ tapes_later
-        else tapes_later) (sym e ∙ none)))
-        ∙ all
 
 -- a tape's node is one of them
 pub tape_below : (nodes : List Node) (tapes : List ℕ) (place node : ℕ)

@@ -20,12 +20,11 @@ use crate::needed_input::items_needed;
 use crate::outcome::{Outcome, Round};
 use crate::run_refusal::RunRefusal;
 use crate::tapes::Marks;
-use std::alloc::{AllocError, Global};
+use std::alloc::Global;
 use strc_elab_graph::graph::{Graph, Node};
-use strc_sched_machine::batches::Order;
+use strc_sched_machine::batches::{Order, order_of};
 use strc_sched_machine::circuit::Circuit;
 use strc_sched_machine::machine::{Machine, Stop};
-use strc_sched_machine::units::copy_units;
 use strc_sched_orders::parts::Schedule;
 use strc_sched_orders::unit::Unit;
 use strc_work_meaning::word::Word;
@@ -128,15 +127,6 @@ pub fn run_units(
         return Err(RunRefusal::NoMemory);
     };
     run_rounds(alloc, machine, marks, circuit, &order, rounds)
-}
-
-/// The order of a schedule's units.
-fn order_of(alloc: Global, circuit: &Circuit, units: &[Unit]) -> Result<Order, AllocError>
-    requires ready { IsReady circuit.now }
-    ensures order { IfOk result (IsOrderOf (circuit_view circuit.now)) }
-    ensures firings { IfOk result (λ order. firings_of (units_of order) ≡ firings_of units.now) }
-{
-    Order::new(alloc, circuit, copy_units(alloc, units)?)
 }
 
 /// Start-up and so many rounds, in these orders.

@@ -2,7 +2,6 @@
 
 ghost use Rattle.std.specs.Prelude.{◌≡◌, ◌<◌, IfOk, [], length, map, take};
 ghost use Rattle.strc_elab_graph.specs.NodeView.{node_view};
-ghost use Rattle.strc_elab_graph.specs.Tapes.{tape_nodes_from};
 ghost use Rattle.strc_sched_outcome.specs.Tapes.{tape, tape_view};
 ghost use Rattle.strc_sched_laws.specs.Machine.{words_at};
 ghost use Rattle.strc_sched.specs.Marks.{IsMarks, kept_tapes};
@@ -13,7 +12,7 @@ use crate::outcome::Tape;
 use std::alloc::{AllocError, Global};
 use std::mem;
 use strc_elab_graph::graph::Node;
-use strc_elab_graph::tapes::gives_words;
+use strc_elab_graph::tapes::{gives_words, tape_list};
 use strc_lex_names::memory::NoMemory;
 use strc_sched_orders::limit::NUMBERED_NODES;
 use strc_work_meaning::word::Word;
@@ -36,7 +35,7 @@ impl<'g> Marks<'g> {
         ensures none { IfOk result (λ marks. AreMarked (map node_view nodes.now)
             marks.lengths.items []) }
     {
-        let tapes = tapes_among(alloc, nodes)?;
+        let tapes = tape_list(alloc, nodes)?;
         let lengths = Vec::from_elem(alloc, 0, nodes.len())?;
         Ok(Marks {
             nodes,
@@ -84,19 +83,6 @@ fn word_count(words: &[Vec<Word>], node: usize) -> usize
     ensures { result ≡ length (words_at (words_of words.now) node) }
 {
     words[node].len()
-}
-
-/// The nodes that give words.
-fn tapes_among(alloc: Global, nodes: &[Node]) -> Result<Vec<usize>, AllocError>
-    ensures { IfOk result (λ tapes. tapes.items ≡ tape_nodes_from 0 (map node_view nodes.now)) }
-{
-    let mut tapes = Vec::new(alloc);
-    for node in 0..nodes.len() {
-        if gives_words(&nodes[node]) {
-            tapes.push(node)?;
-        }
-    }
-    Ok(tapes)
 }
 
 /// A node's tape, of its first so many words, which are taken.

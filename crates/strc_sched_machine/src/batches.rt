@@ -3,6 +3,7 @@
 ghost use Rattle.std.specs.Prelude.{◌≡◌, ◌<◌, All, IfOk, Some, [], ◌∷◌, ◌++◌, length, slice_get};
 ghost use Rattle.std.specs.Prelude.{true};
 ghost use Rattle.strc_elab_graph.specs.Graphs.{NodeCode};
+ghost use Rattle.strc_sched_orders.specs.Greedy.{firings_of};
 ghost use Rattle.strc_sched_orders.specs.Order.{repeated};
 ghost use Rattle.strc_sched_laws.specs.Wiring.{ports_at};
 ghost use Rattle.strc_sched_rings.specs.Apart.{AreAllApart};
@@ -19,6 +20,7 @@ use strc_elab_graph::graph::Node;
 use strc_sched_orders::unit::Unit;
 use strc_sched_rings::circuit::Circuit;
 use strc_sched_rings::movers::ring_of;
+use strc_sched_rings::units::copy_units;
 
 /// Firings of one node in a row.
 #[derive(Clone, Copy)]
@@ -78,6 +80,15 @@ impl Order {
             hands,
         })
     }
+}
+
+/// The order of a schedule's units, for a circuit.
+pub fn order_of(alloc: Global, circuit: &Circuit, units: &[Unit]) -> Result<Order, AllocError>
+    requires ready { IsReady circuit.now }
+    ensures order { IfOk result (IsOrderOf (circuit_view circuit.now)) }
+    ensures firings { IfOk result (λ order. firings_of (units_of order) ≡ firings_of units.now) }
+{
+    Order::new(alloc, circuit, copy_units(alloc, units)?)
 }
 
 /// The firings of one unit more: one batch where its list is one node's firings, and 32 bits count

@@ -20,7 +20,7 @@ pub fn copy_units(alloc: Global, units: &[Unit]) -> Result<Vec<Unit>, AllocError
 }
 
 /// An equal unit.
-fn copy_unit(alloc: Global, unit: &Unit) -> Result<Unit, AllocError>
+pub fn copy_unit(alloc: Global, unit: &Unit) -> Result<Unit, AllocError>
     ensures { IfOk result (λ copy. unit_view copy ≡ unit_view unit.now) }
 {
     Ok(Unit {

@@ -1,9 +1,10 @@
 // Which firings of nodes before fission the firings of their parts are.
 
-ghost use Rattle.std.specs.Prelude.{◌≡◌, ◌+◌, ◌*◌, ◌/◌, ◌%◌, ◌<◌, ◌^◌, slice_index};
+ghost use Rattle.std.specs.Prelude.{◌≡◌, ◌+◌, ◌*◌, ◌/◌, ◌%◌, ◌<◌, ◌^◌};
 ghost use Rattle.strc_stage_steps.specs.Names as names;
 
 use crate::old_names::old_node;
+use strc_balance::counts::count_of;
 use strc_elab_graph::graph::Node;
 use strc_fiss::split::Origin;
 use strc_stage_plan::plan::Plan;
@@ -29,13 +30,6 @@ pub(crate) fn old_firing(plan: &Plan, number: u32, firing: u64) -> u64
         }
         _ => firing,
     }
-}
-
-/// How often a node fires; past the last node never.
-fn count_of(counts: &[u32], node: usize) -> u32
-    ensures { result ≡ slice_index counts.now node }
-{
-    if node < counts.len() { counts[node] } else { 0 }
 }
 
 /// From which firing on in a round a node does those of the node that it stands for.

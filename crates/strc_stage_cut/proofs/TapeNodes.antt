@@ -1,64 +1,29 @@
--- The nodes that give words, one after another.
-use Rattle.std.proofs.Common.{◌≡◌, sym, ap, ◌∙◌, ℕ, ◌+◌, ◌<◌, Bool, true, false, List, []}
-use Rattle.std.proofs.Common.{◌∷◌, ◌++◌, length, get_or, drop, map, arith, add-one}
-use Rattle.std.specs.Prelude.{if◌then◌else◌}
-use Rattle.std.proofs.lemmas.List.{drop_more, get_or-map, length-map}
+-- The words of the nodes that give some, one after another.
+use Rattle.std.proofs.Common.{◌≡◌, ap, ℕ, ◌+◌, ◌<◌, Bool, true, false, List, [], ◌∷◌, ◌++◌, length}
+use Rattle.std.proofs.Common.{get_or, drop, map}
 use Rattle.strc_work_meaning.specs.declared.word.Word.{Word}
 use Rattle.strc_elab_graph.specs.Graphs.{gives_words}
 use Rattle.strc_elab_graph.specs.NodeView.{node_view}
 use Rattle.strc_elab_graph.specs.Tapes.{tape_nodes_from}
 use Rattle.strc_elab_graph.specs.declared.graph.Node.{Node}
+use Rattle.strc_elab_graph.proofs.TapeNodes as graphs
+use Rattle.strc_elab_graph.proofs.TapeNodes.{nodes_later}
 use Rattle.strc_stage_cut.proofs.Lists.{made_next, none_next}
 
+-- a list for each node that gives words, from a place on
 module _ (nodes : List Node) (node : ℕ) (own : Node) (less : node < length nodes)
-    (is : own ≡ get_or nodes node own) where
-  abbrev pub nodes_later : List ℕ
-  nodes_later = tape_nodes_from (node + 1) (drop (node + 1) (map node_view nodes))
+    (is : own ≡ get_or nodes node own) (test : Bool) (e : test ≡ gives_words (node_view own))
+    (words : ℕ → List Word) where
+  pub words_here : test ≡ true → (before whole : List (List Word))
+      → before ++ map words (tape_nodes_from node (drop node (map node_view nodes))) ≡ whole
+      → (before ++ words node ∷ []) ++ map words (nodes_later nodes node own less is) ≡ whole
+  words_here gives before whole =
+      made_next before whole _ (map words (nodes_later nodes node own less is)) (words node)
+      (ap (map words) (graphs.is_tape nodes node own less is test e gives))
 
-  nodes_from : tape_nodes_from node (drop node (map node_view nodes))
-      ≡ (if gives_words (node_view own) then node ∷ nodes_later else nodes_later)
-  nodes_from =
-      ap (tape_nodes_from node)
-      (drop_more (map node_view nodes) node (node_view own)
-      (omega (arith, less, length-map nodes node_view))
-      ∙ ap (λ code. code ∷ drop (node + 1) (map node_view nodes))
-      (get_or-map node_view nodes node own (node_view own) less ∙ ap node_view (sym is)))
-      ∙ ap (λ n. if gives_words (node_view own)
-      then node ∷ tape_nodes_from n (drop (node + 1) (map node_view nodes))
-      else tape_nodes_from n (drop (node + 1) (map node_view nodes))) (sym (add-one node))
-
-  module _ (test : Bool) (e : test ≡ gives_words (node_view own)) where
-    pub is_tape : test ≡ true
-        → tape_nodes_from node (drop node (map node_view nodes)) ≡ node ∷ nodes_later
-    is_tape gives = nodes_from
-        ∙ ap (λ t. if t then node ∷ nodes_later else nodes_later) (sym e ∙ gives)
-
-    pub no_tape : test ≡ false
-        → tape_nodes_from node (drop node (map node_view nodes)) ≡ nodes_later
-    no_tape none = nodes_from
-        ∙ ap (λ t. if t then node ∷ nodes_later else nodes_later) (sym e ∙ none)
-
-    pub node_here : test ≡ true → (before whole : List ℕ)
-        → before ++ tape_nodes_from node (drop node (map node_view nodes)) ≡ whole
-        → (before ++ node ∷ []) ++ nodes_later ≡ whole
-    node_here gives before whole = made_next before whole _ nodes_later node (is_tape gives)
-
-    pub no_node_here : test ≡ false → (before whole : List ℕ)
-        → before ++ tape_nodes_from node (drop node (map node_view nodes)) ≡ whole
-        → before ++ nodes_later ≡ whole
-    no_node_here none before whole = none_next before whole _ nodes_later (no_tape none)
-
-    -- a list for each of them
-    module _ (words : ℕ → List Word) where
-      pub words_here : test ≡ true → (before whole : List (List Word))
-          → before ++ map words (tape_nodes_from node (drop node (map node_view nodes))) ≡ whole
-          → (before ++ words node ∷ []) ++ map words nodes_later ≡ whole
-      words_here gives before whole =
-          made_next before whole _ (map words nodes_later) (words node)
-          (ap (map words) (is_tape gives))
-
-      pub no_words_here : test ≡ false → (before whole : List (List Word))
-          → before ++ map words (tape_nodes_from node (drop node (map node_view nodes))) ≡ whole
-          → before ++ map words nodes_later ≡ whole
-      no_words_here none before whole =
-          none_next before whole _ (map words nodes_later) (ap (map words) (no_tape none))
+  pub no_words_here : test ≡ false → (before whole : List (List Word))
+      → before ++ map words (tape_nodes_from node (drop node (map node_view nodes))) ≡ whole
+      → before ++ map words (nodes_later nodes node own less is) ≡ whole
+  no_words_here none before whole =
+      none_next before whole _ (map words (nodes_later nodes node own less is))
+      (ap (map words) (graphs.no_tape nodes node own less is test e none))

@@ -1,11 +1,12 @@
 // How many items channels carry in a round.
 
-ghost use Rattle.std.specs.Prelude.{◌≡◌, ◌*◌, ◌<◌, ◌^◌, if◌then◌else◌, slice_index};
+ghost use Rattle.std.specs.Prelude.{◌≡◌, ◌*◌, ◌<◌, ◌^◌, if◌then◌else◌};
 ghost use Rattle.strc_balance.specs.Balance.{count_at};
 ghost use Rattle.strc_startup.specs.Rates.{push_at};
 ghost use Rattle.strc_elab_graph.specs.NodeView.{node_view};
 ghost use Rattle.std.specs.Prelude.{map};
 
+use strc_balance::counts::count_of;
 use strc_elab_graph::graph::{Node, Port};
 use strc_elab_graph::rates::pushes_at;
 
@@ -32,13 +33,6 @@ fn round_pushes(nodes: &[Node], counts: &[u32], port: Port) -> u32
 {
     let count = count_of(counts, port.node as usize);
     (u128::from(count) * push_of(nodes, port)) as u32
-}
-
-/// How often a node fires; past the last node never.
-fn count_of(counts: &[u32], node: usize) -> u32
-    ensures { result ≡ slice_index counts.now node }
-{
-    if node < counts.len() { counts[node] } else { 0 }
 }
 
 /// How many items a firing after the first pushes at a port.

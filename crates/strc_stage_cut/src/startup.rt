@@ -2,20 +2,16 @@
 
 ghost use Rattle.std.specs.Prelude.{◌≡◌, IfOk};
 ghost use Rattle.strc_elab_graph.specs.NodeView.{graph_view};
-ghost use Rattle.strc_sched_orders.specs.Greedy.{firings_of};
 ghost use Rattle.strc_sched_laws.specs.Circuits.{IsCircuit};
-ghost use Rattle.strc_sched_rings.specs.Circuits.{circuit_view, IsReady};
-ghost use Rattle.strc_sched_machine.specs.Batches.{IsOrderOf, units_of};
+ghost use Rattle.strc_sched_rings.specs.Circuits.{circuit_view};
 ghost use Rattle.strc_sched_machine.specs.Running.{IsMachine, machine_view};
 ghost use Rattle.strc_stage_cut.specs.Startups.{IsFaultOf, IsStartup, IsDealtOf};
 
-use std::alloc::{AllocError, Global};
+use std::alloc::Global;
 use strc_lex_names::memory::NoMemory;
-use strc_sched_machine::batches::Order;
+use strc_sched_machine::batches::order_of;
 use strc_sched_machine::machine::{Machine, Stop};
-use strc_sched_orders::unit::Unit;
 use strc_sched_rings::circuit::Circuit;
-use strc_sched_rings::units::copy_units;
 use strc_stage_plan::plan::Plan;
 use strc_stage_steps::dealt_state::deal_out;
 use strc_work_meaning::fault::Cause;
@@ -88,17 +84,4 @@ fn faulted(stop: Stop) -> Result<Startup, NoMemory>
         }),
         Stop::NoMemory => Err(NoMemory),
     }
-}
-
-/// The order of a schedule's units.
-pub(crate) fn order_of(
-    alloc: Global,
-    circuit: &Circuit,
-    units: &[Unit],
-) -> Result<Order, AllocError>
-    requires ready { IsReady circuit.now }
-    ensures order { IfOk result (IsOrderOf (circuit_view circuit.now)) }
-    ensures firings { IfOk result (λ order. firings_of (units_of order) ≡ firings_of units.now) }
-{
-    Order::new(alloc, circuit, copy_units(alloc, units)?)
 }

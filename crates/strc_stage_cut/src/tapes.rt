@@ -16,19 +16,6 @@ use strc_sched_rings::range::is_within;
 use strc_stage_steps::TapeOf;
 use strc_work_meaning::word::Word;
 
-/// The nodes that give words: one for each tape.
-pub(crate) fn tape_list(alloc: Global, nodes: &[Node]) -> Result<Vec<usize>, AllocError>
-    ensures { IfOk result (λ tapes. tapes.items ≡ tape_nodes (map node_view nodes.now)) }
-{
-    let mut tapes = Vec::new(alloc);
-    for node in 0..nodes.len() {
-        if gives_words(&nodes[node]) {
-            tapes.push(node)?;
-        }
-    }
-    Ok(tapes)
-}
-
 /// Of these tapes those of the nodes from `first` up to `next`.
 pub(crate) fn tapes_within(
     alloc: Global,

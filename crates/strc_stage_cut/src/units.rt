@@ -1,12 +1,13 @@
 // The units of a stage.
 
 ghost use Rattle.std.specs.Prelude.{◌≡◌, IfOk, slice_index};
-ghost use Rattle.strc_sched_rings.specs.Units.{unit_view, unit_views};
+ghost use Rattle.strc_sched_rings.specs.Units.{unit_views};
 ghost use Rattle.strc_stage_plan.specs.Cuts as spec;
 
 use std::alloc::{AllocError, Global};
 use strc_sched_orders::unit::Unit;
 use strc_sched_rings::range::is_within;
+use strc_sched_rings::units::copy_unit;
 
 /// Copies of the units whose node is one of those from `first` up to `next`.
 pub(crate) fn units_within(
@@ -37,14 +38,4 @@ fn node_of(unit: &Unit) -> usize
     } else {
         0
     }
-}
-
-/// An equal unit.
-fn copy_unit(alloc: Global, unit: &Unit) -> Result<Unit, AllocError>
-    ensures { IfOk result (λ copy. unit_view copy ≡ unit_view unit.now) }
-{
-    Ok(Unit {
-        turns: unit.turns,
-        nodes: unit.nodes.to_vec(alloc)?,
-    })
 }

@@ -3,7 +3,8 @@ use Rattle.std.specs.Vec.{vec_items}
 use Rattle.std.proofs.lemmas.List.{get_or-set_other, length-map, length-set, map-append}
 use Rattle.strc_sched_laws.specs.Machine.{words_at}
 use Rattle.strc_sched_machine.specs.Running.{words_of}
-use Rattle.strc_stage_cut.proofs.TapeNodes.{nodes_later, words_here, no_words_here}
+use Rattle.strc_elab_graph.proofs.TapeNodes.{nodes_later}
+use Rattle.strc_stage_cut.proofs.TapeNodes.{words_here, no_words_here}
 use Rattle.strc_stage_cut.proofs.tapes.tape_words.Goals.{then-gives_words+in_ok-push}
 use Rattle.strc_stage_cut.proofs.tapes.tape_words.Goals.{else-gives_words}
 use Rattle.strc_stage_cut.proofs.tapes.tape_words.Goals as goal

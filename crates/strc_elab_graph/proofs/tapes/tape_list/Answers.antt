@@ -1,8 +1,8 @@
 use Rattle.std.proofs.Common.{◌∙◌, ap, ◌++◌}
-use Rattle.strc_stage_cut.proofs.TapeNodes.{node_here, no_node_here, nodes_later}
-use Rattle.strc_stage_cut.proofs.tapes.tape_list.Goals.{then-gives_words+in_ok-push}
-use Rattle.strc_stage_cut.proofs.tapes.tape_list.Goals.{else-gives_words}
-use Rattle.strc_stage_cut.proofs.tapes.tape_list.Goals as goal
+use Rattle.strc_elab_graph.proofs.TapeNodes.{node_here, no_node_here, nodes_later}
+use Rattle.strc_elab_graph.proofs.tapes.tape_list.Goals.{then-gives_words+in_ok-push}
+use Rattle.strc_elab_graph.proofs.tapes.tape_list.Goals.{else-gives_words}
+use Rattle.strc_elab_graph.proofs.tapes.tape_list.Goals as goal
 
 pub loop-node-preserved : goal.loop-node-preserved
 loop-node-preserved c =
