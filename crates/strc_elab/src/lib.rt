@@ -24,6 +24,6 @@ mod text;
 mod trace;
 
 pub use strc_elab_flattening::flatten;
-pub use strc_elab_graph::graph;
+pub use strc_elab_graph::{condition, graph};
 pub use strc_elab_statements::error;
 pub use strc_elab_stream::stream;
