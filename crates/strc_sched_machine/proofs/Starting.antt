@@ -33,7 +33,7 @@ started_next (first ∷ nodes) [] node actor all is fields known = absurd all
 started_next (first ∷ nodes) (other ∷ actors) node actor all is fields known =
     (all.0, all.1, all.2, started_next nodes actors node actor all.3 is fields known)
 
-started_each : (nodes : List Node) (actors : List Actor) → AreStarted nodes actors
+pub started_each : (nodes : List Node) (actors : List Actor) → AreStarted nodes actors
     → length actors ≡ length (map node_view nodes)
 started_each [] [] all = refl
 started_each [] (actor ∷ actors) all = absurd all

@@ -11,6 +11,7 @@ ghost use Rattle.strc_elab_graph.specs.Rates as rates;
 ghost use Rattle.strc_sched_rings.specs.Answers.{HasStepped};
 ghost use Rattle.strc_sched_rings.specs.Words.{WantsWordOfStep};
 
+use crate::lanes::MOST_PARTED;
 use crate::lanes::frame::LaneFrame;
 use std::alloc::Global;
 use strc_elab_graph::graph::Fission;
@@ -36,7 +37,7 @@ pub(crate) struct FilterActor {
     pub(crate) first: Taking,
     /// What each later one does.
     pub(crate) later: Taking,
-    /// Room for firings in lanes.
+    /// Room for firings in lanes; none where they are never tried.
     pub(crate) lanes: LaneFrame,
     /// How often in a row firings in lanes were tried in vain.
     pub(crate) parted: u32,
@@ -51,8 +52,12 @@ pub(crate) struct Taking {
     pub(crate) pops: u32,
 }
 
-/// A filter before its first firing.
-pub(crate) fn start_filter(alloc: Global, code: &Code) -> Result<FilterActor, NoMemory>
+/// A filter before its first firing, with room for firings in lanes where they are to be tried.
+pub(crate) fn start_filter(
+    alloc: Global,
+    code: &Code,
+    in_lanes: bool,
+) -> Result<FilterActor, NoMemory>
     requires starts { CanStart (filter_of code.now) }
     ensures actor { IfOk result (IsFilterActor (filter_of code.now)) }
     ensures fields { IfOk result (λ actor. started (filter_of code.now) ≡ Ok actor.state.fields) }
@@ -66,13 +71,18 @@ pub(crate) fn start_filter(alloc: Global, code: &Code) -> Result<FilterActor, No
         Err(StartError::NoMemory) => return Err(NoMemory),
     };
     let frame = code.frame(alloc)?;
+    let (lanes, parted) = if in_lanes {
+        (LaneFrame::new(alloc, code)?, 0)
+    } else {
+        (LaneFrame::without_room(alloc), MOST_PARTED)
+    };
     Ok(FilterActor {
         state,
         frame,
         first,
         later,
-        lanes: LaneFrame::new(alloc),
-        parted: 0,
+        lanes,
+        parted,
         again: 0,
     })
 }

@@ -74,9 +74,9 @@ impl Machine {
             (machine_view machine)) }
         ensures known { IfOk result (λ machine. AreClosed (graph_view graph.now).nodes) }
     {
-        let actors = start_actors(alloc, graph.nodes())?;
-        let fired = Vec::from_elem(alloc, 0, graph.nodes().len())?;
         let rings = first_rings(alloc, graph.channels(), sizes)?;
+        let actors = start_actors(alloc, graph.nodes(), circuit, &rings)?;
+        let fired = Vec::from_elem(alloc, 0, graph.nodes().len())?;
         let items = Vec::from_elem(alloc, 0, greatest_room(&rings))?;
         let words = no_words(alloc, graph.nodes().len())?;
         Ok(Machine {

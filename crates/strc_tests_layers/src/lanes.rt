@@ -88,7 +88,7 @@ fn firings_in_lanes_push_what_single_ones_do(rt: HostRuntime) -> Result<(), Fail
         let Ok(state) = code.start(alloc) else {
             return Err(Fail::from("start"));
         };
-        let mut frame = LaneFrame::new(alloc);
+        let mut frame = LaneFrame::new(alloc, &code)?;
         let done = fire_lanes(&code, &state, &mut frame, &items).is_ok();
         assert_eq!(rt; done, expected == "together", "{work}");
         if done {

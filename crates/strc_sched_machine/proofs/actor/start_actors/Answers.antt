@@ -1,8 +1,21 @@
-use Rattle.std.proofs.Common.{sym, subst, ◌∷◌, [], ◌++◌, take}
+use Rattle.std.proofs.Common.{sym, subst, ◌∷◌, [], ◌++◌, take, arith}
+use Rattle.std.proofs.lemmas.List.{length-map, length-take}
+use Rattle.strc_elab_graph.specs.NodeView.{node_view}
 use Rattle.strc_sched_machine.proofs.Starting.{AreStarted, started_next, started_actors}
-use Rattle.strc_sched_machine.proofs.Starting.{started_fields}
+use Rattle.strc_sched_machine.proofs.Starting.{started_each, started_fields}
 use Rattle.strc_sched_machine.proofs.Starting.{started_known, starts_at, all_started, take_more}
 use Rattle.strc_sched_machine.proofs.actor.start_actors.Goals as goal
+
+pub may_fire_in_lanes-in_lanes-requires : goal.may_fire_in_lanes-in_lanes-requires
+may_fire_in_lanes-in_lanes-requires c =
+    let front = take c.loop-node.node-index c.args.nodes.now in
+    let each = started_each front c.loop-node.actors.items c.loop-node.invariant in
+    let seen = length-map front node_view in
+    let first = length-take c.loop-node.node-index c.args.nodes.now in
+    record {
+      inputs = omega (arith, each, seen, first, c.requires.inputs, c.loop-node-test.true);
+      outputs = omega (arith, each, seen, first, c.requires.outputs, c.loop-node-test.true);
+    }
 
 pub start_actor-requires : goal.start_actor-requires
 start_actor-requires c = record {

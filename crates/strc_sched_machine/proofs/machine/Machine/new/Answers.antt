@@ -1,9 +1,21 @@
-use Rattle.std.proofs.Common.{◌∙◌, sym, ap, subst, length, map, []}
+use Rattle.std.proofs.Common.{◌∙◌, sym, ap, subst, length, map, [], arith}
 use Rattle.std.proofs.lemmas.List.{length-map, length-replicate}
 use Rattle.strc_elab_graph.specs.NodeView.{node_view, channel_view}
 use Rattle.strc_sched_machine.specs.Actors.{AreActors}
 use Rattle.strc_sched_machine.proofs.Done.{hold_rings}
 use Rattle.strc_sched_machine.proofs.machine.Machine.new.Goals as goal
+
+pub start_actors-requires-clause-inputs : goal.start_actors-requires-clause-inputs
+start_actors-requires-clause-inputs c =
+    let nodes = ap length c.nodes.ensures in
+    let each = length-map c.args.graph.now.nodes node_view in
+    omega (arith, nodes, each, c.requires.circuit.input_nodes)
+
+pub start_actors-requires-clause-outputs : goal.start_actors-requires-clause-outputs
+start_actors-requires-clause-outputs c =
+    let nodes = ap length c.nodes.ensures in
+    let each = length-map c.args.graph.now.nodes node_view in
+    omega (arith, nodes, each, c.requires.circuit.output_nodes)
 
 pub returns-clause-machine : goal.returns-clause-machine
 returns-clause-machine c =
