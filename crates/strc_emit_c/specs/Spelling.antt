@@ -1,6 +1,7 @@
 -- The text of C.
-use Rattle.std.specs.Prelude.{ℕ, zero, suc, ◌+◌, ◌-◌, ℤ, Bool, true, false, ◌&&◌, List, [], ◌∷◌}
+use Rattle.std.specs.Prelude.{ℕ, zero, suc, ◌+◌, ◌-◌, Bool, true, false, List, [], ◌∷◌}
 use Rattle.std.specs.Prelude.{◌++◌, codes, decimal, nat_lt, nat_le, Option, Some, None}
+use Rattle.std.specs.Prelude.{slice_index_or}
 use Rattle.std.specs.Prelude.{if◌then◌else◌}
 use Rattle.std.specs.Fmt.{signed_decimal}
 use Rattle.strc_parse_tree.specs.declared.tree.UnaryOperator.{UnaryOperator}
@@ -10,7 +11,6 @@ use Rattle.strc_parse_tree.specs.declared.tree.BinaryOperator.TheVariants as bin
 use Rattle.strc_work_meaning.specs.declared.fault.Cause.{Cause}
 use Rattle.strc_work_meaning.specs.declared.fault.Cause.TheVariants as cause
 use Rattle.strc_emit_c.specs.declared.function.Function.{Function}
-use Rattle.strc_emit_c.specs.declared.function.Range.{Range}
 use Rattle.strc_emit_c.specs.declared.text.TheConstants.{DEPTH_LIMIT}
 use Rattle.strc_emit_c.specs.C.{Counter, Popped, Pushed, Turns, Depth}
 use Rattle.strc_emit_c.specs.C.{Expression, Number, Size, Slot, Count, Element, Input, Unary}
@@ -66,11 +66,14 @@ counter_name Pushed = codes "pushed"
 counter_name Turns = codes "turns"
 counter_name Depth = codes "depth"
 
--- the array that a slot is in, among arrays
-abbrev pub range_in : List Range → (slot : ℕ) → Option Range
-range_in [] slot = None
-range_in (first ∷ rest) slot =
-    if nat_le first.from slot && nat_lt slot first.to then Some first else range_in rest slot
+-- an array doesn't begin after a slot that is in it
+abbrev pub begun_by : (slot : ℕ) → Option ℕ → Option ℕ
+begun_by slot None = None
+begun_by slot (Some from) = if nat_le from slot then Some from else None
+
+-- where the array begins that a slot is in, where a table has it for each slot
+abbrev pub array_in : List (Option ℕ) → (slot : ℕ) → Option ℕ
+array_in arrays slot = begun_by slot (slice_index_or arrays slot None)
 
 -- the variable that begins at a slot: a field's is `f3_5` in node 3, a local's `v5`
 abbrev pub name_text : Function → (slot : ℕ) → List ℕ
@@ -78,23 +81,23 @@ name_text function slot = (if nat_lt slot function.fields
     then codes "f" ++ decimal function.node ++ codes "_" else codes "v") ++ decimal slot
 
 -- a slot, and one of an array: `v5`, `v4[1]`
-abbrev pub place_text : Function → Option Range → (slot : ℕ) → List ℕ
+abbrev pub place_text : Function → Option ℕ → (slot : ℕ) → List ℕ
 place_text function None slot = name_text function slot
-place_text function (Some range) slot =
-    name_text function range.from ++ codes "[" ++ decimal (slot - range.from) ++ codes "]"
+place_text function (Some from) slot =
+    name_text function from ++ codes "[" ++ decimal (slot - from) ++ codes "]"
 
 abbrev pub slot_text : Function → (slot : ℕ) → List ℕ
-slot_text function slot = place_text function (range_in function.ranges.items slot) slot
+slot_text function slot = place_text function (array_in function.arrays.items slot) slot
 
 -- where the array begins that a slot is in
-abbrev pub beginning : Option Range → (slot : ℕ) → ℕ
+abbrev pub beginning : Option ℕ → (slot : ℕ) → ℕ
 beginning None slot = slot
-beginning (Some range) slot = range.from
+beginning (Some from) slot = from
 
 -- an element of the array at a slot, up to its index: `v4[2 + `
 abbrev pub element_beginning : Function → (base : ℕ) → List ℕ
 element_beginning function base =
-    let from = beginning (range_in function.ranges.items base) base in
+    let from = beginning (array_in function.arrays.items base) base in
     name_text function from ++ codes "[" ++ decimal (base - from) ++ codes " + "
 
 -- an element of the array at a slot: `v4[2 + v7]`

@@ -3,21 +3,23 @@
 ghost use Rattle.std.specs.Prelude.{◌≡◌, ◌++◌, ◌≤◌, OnOk, IfSome, codes};
 ghost use Rattle.strc_emit_c.specs.Spelling as spelling;
 
-use crate::function::{Function, Range};
+use crate::function::Function;
 use crate::text::{push_bytes, push_number};
 use strc_lex_names::memory::NoMemory;
 
-/// The array that a slot is in.
-pub fn range_of(ranges: &[Range], slot: u32) -> Option<Range>
-    ensures range { result ≡ spelling.range_in ranges.now slot }
-    ensures within { IfSome result (λ range. range.from ≤ slot) }
+/// Where the array begins that a slot is in: a table has it for each slot.
+pub fn array_of(arrays: &[Option<u32>], slot: u32) -> Option<u32>
+    ensures array { result ≡ spelling.array_in arrays.now slot }
+    ensures within { IfSome result (λ from. from ≤ slot) }
 {
-    for range in ranges {
-        if range.from <= slot && slot < range.to {
-            return Some(*range);
-        }
+    let place = slot as usize;
+    if place >= arrays.len() {
+        return None;
     }
-    None
+    match arrays[place] {
+        Some(from) if from <= slot => Some(from),
+        _ => None,
+    }
 }
 
 /// Adds the name of the variable that begins at a slot: `f3_5` of a field of node 3, `v5` of a
@@ -41,12 +43,12 @@ pub fn push_slot(text: &mut Vec<u8>, function: &Function, slot: u32) -> Result<(
     ensures { OnOk result (text.new.items ≡ text.old.items
         ++ spelling.slot_text function.now slot) }
 {
-    match range_of(&function.ranges, slot) {
+    match array_of(&function.arrays, slot) {
         None => push_name(text, function, slot),
-        Some(range) => {
-            push_name(text, function, range.from)?;
+        Some(from) => {
+            push_name(text, function, from)?;
             push_bytes(text, b"[")?;
-            push_number(text, slot - range.from)?;
+            push_number(text, slot - from)?;
             push_bytes(text, b"]")
         }
     }
@@ -57,7 +59,7 @@ pub fn push_element(text: &mut Vec<u8>, function: &Function, base: u32) -> Resul
     ensures { OnOk result (text.new.items ≡ text.old.items
         ++ spelling.element_beginning function.now base) }
 {
-    let from = beginning(&function.ranges, base);
+    let from = beginning(&function.arrays, base);
     push_name(text, function, from)?;
     push_bytes(text, b"[")?;
     push_number(text, base - from)?;
@@ -65,13 +67,13 @@ pub fn push_element(text: &mut Vec<u8>, function: &Function, base: u32) -> Resul
 }
 
 /// Where the array begins that a slot is in.
-fn beginning(ranges: &[Range], slot: u32) -> u32
-    ensures beginning { result ≡ spelling.beginning (spelling.range_in ranges.now slot) slot }
+fn beginning(arrays: &[Option<u32>], slot: u32) -> u32
+    ensures beginning { result ≡ spelling.beginning (spelling.array_in arrays.now slot) slot }
     ensures within { result ≤ slot }
 {
-    match range_of(ranges, slot) {
+    match array_of(arrays, slot) {
         None => slot,
-        Some(range) => range.from,
+        Some(from) => from,
     }
 }
 

@@ -69,7 +69,7 @@ code_text-before function depth (Loop condition slot body rest) b =
     (code_text function depth b) (code_text-before function depth rest b)
 code_text-before function depth (Call name first count into rest) b =
     apart (line_text function depth
-    (call_line (place_of function.helpers.items name) first count into))
+    (call_line (place_of function.helpers name) first count into))
     (code_text function depth (before rest b)) (code_text function depth rest)
     (code_text function depth b) (code_text-before function depth rest b)
 

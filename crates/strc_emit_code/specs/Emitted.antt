@@ -174,5 +174,5 @@ emitted function (Loop condition slot body rest) =
     c.Loop (emitted function condition) slot (c.lines_before turn_lines (emitted function body))
     (emitted function rest)
 emitted function (Call name first count into rest) =
-    c.Then (call_line (place_of function.helpers.items name) first count into)
+    c.Then (call_line (place_of function.helpers name) first count into)
     (emitted function rest)

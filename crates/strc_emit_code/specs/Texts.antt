@@ -38,4 +38,4 @@ test_text function depth condition =
 -- the line of a call
 abbrev pub line_of : Function → (depth : ℕ) → Call → List ℕ
 line_of function depth call = line_text function depth
-    (call_line (place_of function.helpers.items call.name) call.first call.count call.into)
+    (call_line (place_of function.helpers call.name) call.first call.count call.into)

@@ -1,0 +1,2 @@
+mod Joining
+pub mod Pushing
