@@ -11,12 +11,13 @@ use strc_lex_names::name::Name;
 use strc_parse_tree::tree::FilterTree;
 use strc_work_meaning::fault::CALL_LIMIT;
 
-/// The code of a helper function: its name, how many parameters it has, its block's flat form,
-/// which is what is run, and how many slots a call of it needs.
+/// The code of a helper function: its name, how many parameters it has, its block's code and flat
+/// form, which is what is run, and how many slots a call of it needs.
 #[derive(Drop)]
 pub struct HelperCode {
     pub name: Name,
     pub parameters: usize,
+    pub code: Node,
     pub flat: Node,
     pub slots: usize,
 }

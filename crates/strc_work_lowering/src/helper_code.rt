@@ -89,6 +89,7 @@ fn emit_helper(
     Ok(HelperCode {
         name: name.copy()?,
         parameters: parameters.len(),
+        code: block,
         flat,
         slots,
     })
