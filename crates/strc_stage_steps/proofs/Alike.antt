@@ -11,7 +11,7 @@ use Rattle.strc_elab_dataflow.specs.Machine as generic
 use Rattle.strc_elab_dataflow.specs.Queues.{fifo_rounds}
 use Rattle.strc_elab_graph.specs.Meaning.{node_meaning}
 use Rattle.strc_stage_core.specs.Actors.{Collector}
-use Rattle.strc_stage_core.specs.Endings.{AreRunning, IsGathered, IsDecided, Gathers}
+use Rattle.strc_stage_core.specs.Endings.{AreRunning, IsEnded, IsGathered, IsDecided, Gathers}
 use Rattle.strc_stage_core.specs.Events.{is_over}
 use Rattle.strc_stage_core.specs.Parts.{core_of}
 use Rattle.strc_stage_core.specs.States.{Start, Core, IsState}
@@ -28,7 +28,8 @@ use Rattle.strc_elab_dataflow.specs.Restart.{numbered_on}
 use Rattle.strc_stage_steps.specs.Beginnings.{IsBeginning}
 use Rattle.strc_stage_steps.specs.Laws.{TellsOutcome, StagesRunAlike}
 use Rattle.strc_stage_steps.specs.Steps.{StageState, Gathered, stage_work}
-use Rattle.strc_stage_steps.proofs.Chain.{are_parts, received_few, chain_answers, reach, collected}
+use Rattle.strc_stage_steps.proofs.Chain.{AreParts, are_parts, received_few, chain_answers, reach}
+use Rattle.strc_stage_steps.proofs.Chain.{collected}
 use Rattle.strc_stage_steps.proofs.Follows.{Related}
 use Rattle.strc_stage_steps.proofs.Fresh.{AreUnstopped}
 use Rattle.strc_stage_steps.proofs.Setting.{Setting, setting}
@@ -50,7 +51,7 @@ module _ (s : Setting) (started : MachineView)
     (start : Start StageState Load Stop Gathered)
     (beginning : IsBeginning s.running s.bound s.last s.circuit started s.rounds start)
     (core : Core StageState Load Stop Gathered) (state : IsState stage_work start core)
-    (over : is_over core ≡ true) where
+    (its : AreParts start core) (over : is_over core ≡ true) where
   abbrev count : ℕ
   count = length s.running.graph.nodes
 
@@ -80,18 +81,32 @@ module _ (s : Setting) (started : MachineView)
   -- ---- the collector
 
   abbrev received : List ParcelView
-  received = (are_parts s started holds start beginning core state).end.received
+  received = its.end.received
 
   abbrev end : Collector Gathered Stop
-  end = (are_parts s started holds start beginning core state).end.actor
+  end = its.end.actor
 
   end_is : end ≡ core.collector
   unfolding core_of
-  end_is = ap (λ (c : Core StageState Load Stop Gathered). c.collector)
-      (are_parts s started holds start beginning core state).same
+  end_is = ap (λ (c : Core StageState Load Stop Gathered). c.collector) its.same
 
-  no_stop : start.collector.stop ≡ None
-  no_stop = state.begun.no_stop beginning.going
+  -- it took a parcel for each round, of which none was stopped; where there are no rounds, none
+  every_round : (ended : IsEnded stage_work start core) → AreRunning ended.taken → (done : Bool)
+      → start.done ≡ done → length ended.taken ≡ start.collector.rounds
+  every_round ended running false going =
+      let ends = ended.taken_ends going in
+      elim ends.why [
+        | inl e ↦ e
+        | inr stopped ↦ absurd (true≢false (sym stopped ∙ ap is_some
+            (last_runs ends.front ends.last (subst AreRunning ends.is running))))
+      ]
+  every_round ended running true done =
+      let none = ap length (ended.none_done done) in
+      let many = ended.as_many in
+      elim (state.begun.why_done done) [
+        | inl e ↦ omega (arith, none, many, e)
+        | inr stopped ↦ absurd (true≢false (sym stopped ∙ ap is_some beginning.no_stop))
+      ]
 
   -- where it has no stop it took a parcel for each round
   all_taken : core.collector.stop ≡ None → length received ≡ s.rounds
@@ -99,22 +114,16 @@ module _ (s : Setting) (started : MachineView)
       let ended = all_ended stage_work start core state over in
       let gathers = subst (λ (why : Option Stop). Gathers stage_work start.collector ended.taken why
       core.collector.total) none (gathers_all stage_work start.collector ended.taken ended.given
-      core.collector ended.gathers no_stop) in
-      let ends = ended.taken_ends beginning.going in
-      let parts = are_parts s started holds start beginning core state in
+      core.collector ended.gathers beginning.no_stop) in
       let mine = gathers_taken stage_work start.collector received
-      (parts.end.sent ++ option_to_list parts.end.held) end parts.joined.collects in
-      let its = gathers_taken stage_work start.collector ended.taken ended.given core.collector
+      (its.end.sent ++ option_to_list its.end.held) end its.joined.collects in
+      let took = gathers_taken stage_work start.collector ended.taken ended.given core.collector
       ended.gathers in
-      let many : length ended.taken ≡ start.collector.rounds = elim ends.why [
-        | inl e ↦ e
-        | inr stopped ↦ absurd (true≢false (sym stopped ∙ ap is_some
-            (last_runs ends.front ends.last (subst AreRunning ends.is gathers.running))))
-      ] in
+      let many = every_round ended gathers.running start.done refl in
       omega (
         arith,
         mine,
-        its,
+        took,
         many,
         beginning.rounds_are,
         ap (λ (c : Collector Gathered Stop). c.taken) end_is,
@@ -133,8 +142,8 @@ module _ (s : Setting) (started : MachineView)
 
   abbrev reaches : (n : ℕ) → AreUnstopped s n received
       → Related s (suc n) received
-      (collected s started holds start beginning core state)
-  reaches = reach s started holds start beginning core state beginning.going
+      (collected s started holds start beginning core state its)
+  reaches = reach s started holds start beginning core state its
 
   all_tells : (total : Gathered) → length received ≡ s.rounds
       → IsGathered stage_work start.collector received total
@@ -143,14 +152,14 @@ module _ (s : Setting) (started : MachineView)
       let all = all_gathered s s.rounds 0
       (words_of s.from.runs)
       start.collector.total received
-      (collected s started holds start beginning core state) (sym many) first_tapes
+      (collected s started holds start beginning core state its) (sym many) first_tapes
       gathered.running (subst (λ (n : ℕ). Related s (suc n) received
-      (collected s started holds start beginning core state)) many
+      (collected s started holds start beginning core state its)) many
       (reaches (length received)
       (subst (λ (l : List ParcelView). AreUnstopped s (length received) l)
       (append-nil received) (unstopped received [] gathered.running)))) in
       done_tells all.last total answer
-      (chain_answers s started holds start beginning core state (Done all.last) all.outcome)
+      (chain_answers s started holds start beginning core state its (Done all.last) all.outcome)
       (ap (λ (g : Gathered). g.words) gathered.total_is ∙ all.tapes)
 
   stop_tells : (total : Gathered) (node firing : ℕ) (cause : Cause)
@@ -164,22 +173,22 @@ module _ (s : Setting) (started : MachineView)
         | inr memory ↦ absurd (true≢false (ap is_fault memory.1))
       ] in
       let related = subst (λ (l : List ParcelView). Related s (suc (length front)) l
-      (collected s started holds start beginning core state)) decided.is
+      (collected s started holds start beginning core state its)) decided.is
       (reaches (length front) (subst (AreUnstopped s (length front)) (sym decided.is)
       (unstopped front (decided.parcel ∷ decided.rest) decided.running))) in
       let less : length front < s.rounds = omega (
         arith,
-        received_few s started holds start beginning core state,
+        received_few s started holds start beginning core state its,
         ap length decided.is,
         length-append front (decided.parcel ∷ decided.rest),
       ) in
       let up_to = up_to_gathered s s.rounds 0
       (words_of s.from.runs) start.collector.total front
       decided.parcel decided.rest
-      (collected s started holds start beginning core state) node firing cause less
+      (collected s started holds start beginning core state its) node firing cause less
       first_tapes decided.running stopped related in
       fault_tells (0 + length front) node firing cause up_to.why up_to.last total answer up_to.named
-      (chain_answers s started holds start beginning core state
+      (chain_answers s started holds start beginning core state its
       (RoundFault (0 + length front) up_to.why up_to.last) up_to.outcome)
       (ap (λ (g : Gathered). g.words) decided.total_is ∙ up_to.tapes)
       (omega (
@@ -200,14 +209,13 @@ module _ (s : Setting) (started : MachineView)
   pub tells_outcome : TellsOutcome s.running.graph.nodes core.collector.total core.collector.stop
       answer
   tells_outcome =
-      let parts = are_parts s started holds start beginning core state in
       by_stop core.collector.stop core.collector.total all_taken
       (subst (λ (c : Collector Gathered Stop). Gathers stage_work start.collector received c.stop
       c.total) end_is (gathers_all stage_work start.collector received
-      (parts.end.sent ++ option_to_list parts.end.held) end parts.joined.collects no_stop))
+      (its.end.sent ++ option_to_list its.end.held) end its.joined.collects beginning.no_stop))
 
 pub stages_run_alike : StagesRunAlike
 stages_run_alike running by_source from rounds bound last circuit started start core is holds
     beginning state over =
     tells_outcome (setting running by_source from rounds bound last circuit is) started holds start
-    beginning core state over
+    beginning core state (are_parts start core state) over

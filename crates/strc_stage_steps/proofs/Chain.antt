@@ -4,7 +4,6 @@ use Rattle.std.proofs.Common.{Bool, true, false, List, [], ◌∷◌, ◌++◌, 
 use Rattle.std.proofs.Common.{Some, None, slice_get, slice_index, arith}
 use Rattle.std.proofs.Common.{option_to_list, length-append}
 use Rattle.std.proofs.Math.Nat.{min-le_left}
-use Rattle.std.proofs.lemmas.Option.{none-some, same_Some}
 use Rattle.std.proofs.lemmas.List.{take-append-drop, length-take, length-map}
 use Rattle.strc_work_meaning.specs.declared.fault.Cause.{Cause}
 use Rattle.strc_work_meaning.specs.declared.word.Word.{Word}
@@ -15,7 +14,7 @@ use Rattle.strc_elab_graph.specs.Meaning.{node_meaning}
 use Rattle.strc_stage_core.specs.Actors.{Collector}
 use Rattle.strc_stage_core.specs.Events.{taken_by}
 use Rattle.strc_stage_core.specs.Parts as ring
-use Rattle.strc_stage_core.specs.Parts.{Part, received_by, AreLinked, AreJoined, core_of}
+use Rattle.strc_stage_core.specs.Parts.{received_by, AreLinked, AreJoined, core_of}
 use Rattle.strc_stage_core.specs.States.{Start, Core, IsState, AreFresh}
 use Rattle.strc_stage_core.proofs.Joining.{state_parts}
 use Rattle.strc_stage_core.proofs.Stages.{runs_taken}
@@ -43,8 +42,9 @@ use Rattle.strc_stage_steps.proofs.Fresh.{spent_front}
 use Rattle.strc_stage_steps.proofs.Fresh.{spent_behind}
 use Rattle.strc_stage_steps.proofs.Fresh.{spent_related, AreUnstopped, back_spent}
 use Rattle.strc_stage_steps.proofs.Held.{IsHeld, not_own}
-use Rattle.strc_stage_steps.proofs.Links.{StagePart, received_at, links, link_steps, link_related}
-use Rattle.strc_stage_steps.proofs.Links.{related_front, related_less, last_few, made_at}
+use Rattle.strc_stage_steps.specs.Carrying.{StagePart, CollectorPart, made_at}
+use Rattle.strc_stage_steps.proofs.Links.{received_at, links, link_steps, link_related}
+use Rattle.strc_stage_steps.proofs.Links.{related_front, related_less, last_few}
 use Rattle.strc_stage_steps.proofs.Links.{made_front}
 use Rattle.strc_stage_steps.proofs.Setting.{Setting, meaning, again, staging, own, stage_of}
 use Rattle.strc_stage_steps.proofs.Setting.{is_staging}
@@ -68,14 +68,20 @@ as_many (stage₀ ∷ stages₀) (part ∷ parts) (runs, steps) = ap suc (as_man
 as_many [] (part ∷ parts) steps = absurd steps
 as_many (stage₀ ∷ stages₀) [] steps = absurd steps
 
-none_stopped : (first : Bool) (rounds : ℕ) (done : Bool) (stages : List Worker) (k : ℕ)
-    (stage : Worker) → AreFresh first rounds done stages → done ≡ false
-    → slice_get stages k ≡ Some stage → stage.stop ≡ None
-none_stopped first rounds done [] k stage fresh going there = absurd (none-some stage there)
-none_stopped first rounds done (own ∷ stages) zero stage fresh going there =
-    ap (λ (w : Worker). w.stop) (sym (same_Some own stage there)) ∙ fresh.0.no_stop going
-none_stopped first rounds done (own ∷ stages) (suc k) stage fresh going there =
-    none_stopped false rounds done stages k stage fresh.1 going there
+-- the stages' lists and the collector's, of a state of this start
+pub record AreParts (start : Start StageState Load Stop Gathered)
+    (core : Core StageState Load Stop Gathered) : Type 0 where
+  pub parts : List StagePart
+  pub end : CollectorPart
+  pub joined : AreJoined stage_work start parts end
+  pub same : core_of parts end ≡ core
+
+pub are_parts : (start : Start StageState Load Stop Gathered)
+    (core : Core StageState Load Stop Gathered) → IsState stage_work start core
+    → AreParts start core
+are_parts start core state =
+    let (parts, end, joined, same) = state_parts stage_work start core state in
+    record { parts = parts; end = end; joined = joined; same = same }
 
 module _ (s : Setting) (started : MachineView)
     (holds : Simulates s.running.graph s.running.sizes s.circuit.input s.from started) where
@@ -127,59 +133,48 @@ module _ (s : Setting) (started : MachineView)
         words = λ node code there gives e. is.is_machine.words node;
       }
 
-  working : (c : ℕ) → c < suc s.last → IsWorking (staging s) c 0 now
+  pub working : (c : ℕ) → c < suc s.last → IsWorking (staging s) c 0 now
   working c less = (startup_gives_stages (staging s) (is_staging s)).0 now went c less
 
   module _ (start : Start StageState Load Stop Gathered)
       (beginning : IsBeginning s.running s.bound s.last s.circuit started s.rounds start)
-      (core : Core StageState Load Stop Gathered) (state : IsState stage_work start core) where
+      (core : Core StageState Load Stop Gathered) (state : IsState stage_work start core)
+      (its : AreParts start core) where
     -- ---- the parts of the state
 
-    -- the stages' lists and the collector's
-    pub record AreParts : Type 0 where
-      pub parts : List StagePart
-      pub end : Part (Collector Gathered Stop) ParcelView
-      pub joined : AreJoined stage_work start parts end
-      pub same : core_of parts end ≡ core
-
-    pub are_parts : AreParts
-    are_parts =
-        let (parts, end, joined, same) = state_parts stage_work start core state in
-        record { parts = parts; end = end; joined = joined; same = same }
-
     abbrev pub parts : List StagePart
-    parts = are_parts.parts
+    parts = its.parts
 
     abbrev pub received : List ParcelView
-    received = are_parts.end.received
+    received = its.end.received
 
-    abbrev pub joined : AreJoined stage_work start are_parts.parts are_parts.end
-    joined = are_parts.joined
+    abbrev pub joined : AreJoined stage_work start its.parts its.end
+    joined = its.joined
 
     pub part_count : length parts ≡ suc s.last
     part_count = sym (as_many start.stages parts joined.steps) ∙ beginning.stages
 
     abbrev given₀ : List Generic
-    given₀ = map fresh (start.free ++ are_parts.end.sent)
+    given₀ = map fresh (start.free ++ its.end.sent)
 
     long : length (received_by parts received) ≤ length given₀
     long = omega (
       arith,
-      length-map (start.free ++ are_parts.end.sent) fresh,
+      length-map (start.free ++ its.end.sent) fresh,
       ap length joined.last_link,
-      length-append (received_by parts received) are_parts.end.left,
+      length-append (received_by parts received) its.end.left,
     )
 
-    few_by : (stages₀ : List Worker) (its : List StagePart) (last : List ParcelView)
+    few_by : (stages₀ : List Worker) (own : List StagePart) (last : List ParcelView)
         (head : Bool) (rounds : ℕ) (done : Bool) (most : ℕ) → 0 < length stages₀
-        → AreFresh head rounds done stages₀ → ring.AreSteps stage_work stages₀ its
-        → taken_by 0 (map (λ (part : StagePart). part.actor) its) are_parts.end.actor ≤ most
-        → length (received_by its last) ≤ most
-    few_by [] its last head rounds done most some fresh steps within =
+        → AreFresh head rounds done stages₀ → ring.AreSteps stage_work stages₀ own
+        → taken_by 0 (map (λ (part : StagePart). part.actor) own) its.end.actor ≤ most
+        → length (received_by own last) ≤ most
+    few_by [] own last head rounds done most some fresh steps within =
         absurd (omega (arith, some))
     few_by (stage₀ ∷ stages₀) [] last head rounds done most some fresh steps within =
         absurd steps
-    few_by (stage₀ ∷ stages₀) (part ∷ its) last head rounds done most some fresh steps within =
+    few_by (stage₀ ∷ stages₀) (part ∷ own) last head rounds done most some fresh steps within =
         omega (
           arith,
           within,
@@ -195,9 +190,9 @@ module _ (s : Setting) (started : MachineView)
         few_by start.stages parts received true start.collector.rounds start.done s.rounds
         state.begun.some_stage state.begun.fresh joined.steps
         (subst (λ (n : ℕ). taken_by 0 (map (λ (part : StagePart). part.actor) parts)
-        are_parts.end.actor ≤ n) beginning.rounds_are
+        its.end.actor ≤ n) beginning.rounds_are
         (subst (λ (c : Core StageState Load Stop Gathered).
-        taken_by 0 c.stages c.collector ≤ start.collector.rounds) (sym are_parts.same) within))
+        taken_by 0 c.stages c.collector ≤ start.collector.rounds) (sym its.same) within))
 
     pub received_few : length received ≤ s.rounds
     received_few = last_few s now received start.stages parts s.rounds joined.steps joined.links
@@ -224,7 +219,7 @@ module _ (s : Setting) (started : MachineView)
         length-take (length (received_at parts received 0)) given₀,
         min-le_left (length (received_at parts received 0)) (length given₀),
       );
-      fresh = fresh_are (taken (suc s.last)) 0 (start.free ++ are_parts.end.sent);
+      fresh = fresh_are (taken (suc s.last)) 0 (start.free ++ its.end.sent);
       steps = λ a less are. link_steps s now received 0 start.stages parts given₀ joined.steps
           joined.links long a a (omega arith) (omega (arith, less, part_count));
     }
@@ -235,7 +230,7 @@ module _ (s : Setting) (started : MachineView)
     given_are b less = (chain_gives_answer (staging s) now given taken left (is_staging s)
         went chain).0 b (omega (arith, less, part_count))
 
-    are_parcels : (b c : ℕ) → c ≡ 0 + b → b ≤ length parts
+    pub are_parcels : (b c : ℕ) → c ≡ 0 + b → b ≤ length parts
         → AreParcels (staging s) (taken (suc s.last)) c 0 (taken b)
     are_parcels b c e less =
         let same : b ≡ c = omega (arith, e) in
@@ -249,7 +244,7 @@ module _ (s : Setting) (started : MachineView)
     abbrev pub collected : List Generic
     collected = take (length received) (given (length parts))
 
-    collected_is : taken (suc s.last) ≡ collected
+    pub collected_is : taken (suc s.last) ≡ collected
     collected_is =
         ap (λ (n : ℕ). take (length (received_at parts received n)) (given n)) (sym part_count)
         ∙ ap (λ (l : List ParcelView). take (length l) (given (length parts)))
@@ -266,73 +261,71 @@ module _ (s : Setting) (started : MachineView)
 
     -- ---- rounds of the ring
 
-    module _ (going : start.done ≡ false) where
-      heads : (k c : ℕ) (stage : Worker) → c ≡ 0 + k → slice_get start.stages k ≡ Some stage
-          → (stage.stop ≡ None) × IsHeld s c stage.inner now
-      heads k c stage e there = (
-        none_stopped true start.collector.rounds start.done start.stages k stage
-            state.begun.fresh going there,
-        first_held c stage.inner
-            (subst (λ (n : ℕ). IsStageOf s.running s.bound s.last s.circuit started n stage.inner)
-            (let same : k ≡ c = omega (arith, e) in same) (beginning.each k stage there)),
-      )
+    pub heads : (k c : ℕ) (stage : Worker) → c ≡ 0 + k → slice_get start.stages k ≡ Some stage
+        → (stage.stop ≡ None) × IsHeld s c stage.inner now
+    heads k c stage e there = (
+      (beginning.each k stage there).1,
+      first_held c stage.inner
+          (subst (λ (n : ℕ). IsStageOf s.running s.bound s.last s.circuit started n stage.inner)
+          (let same : k ≡ c = omega (arith, e) in same) (beginning.each k stage there).0),
+    )
 
-      all_free : (free : List ParcelView)
-          → ((k : ℕ) (p : ParcelView) → slice_get free k ≡ Some p
-          → IsFree s.running s.bound s.last s.circuit started p)
-          → AllSpent s free
-      all_free [] each = tt
-      all_free (p ∷ free) each = (
-        free_spent s started p (each 0 p refl),
-        all_free free (λ k q there. each (suc k) q there),
-      )
+    all_free : (free : List ParcelView)
+        → ((k : ℕ) (p : ParcelView) → slice_get free k ≡ Some p
+        → IsFree s.running s.bound s.last s.circuit started p)
+        → AllSpent s free
+    all_free [] each = tt
+    all_free (p ∷ free) each = (
+      free_spent s started p (each 0 p refl),
+      all_free free (λ k q there. each (suc k) q there),
+    )
 
-      abbrev pub came : List ParcelView
-      came = start.free ++ are_parts.end.sent
+    abbrev pub came : List ParcelView
+    came = start.free ++ its.end.sent
 
-      -- what comes back after so many parcels that weren't stopped
-      pub came_spent : (n : ℕ) → AreUnstopped s n received → Related s n received collected
-          → AreSpent s (length start.free + n) came
-      came_spent n unstopped related =
-          let end = are_parts.end in
-          spent_behind s n start.free end.sent (all_free start.free beginning.free)
-          (spent_front s n end.sent (option_to_list end.held)
-          (back_spent s n start.collector end.actor received
-          (end.sent ++ option_to_list end.held) collected related unstopped joined.collects))
+    -- what comes back after so many parcels that weren't stopped
+    pub came_spent : (n : ℕ) → AreUnstopped s n received → Related s n received collected
+        → AreSpent s (length start.free + n) came
+    came_spent n unstopped related =
+        let end = its.end in
+        spent_behind s n start.free end.sent (all_free start.free beginning.free)
+        (spent_front s n end.sent (option_to_list end.held)
+        (back_spent s n start.collector end.actor received
+        (end.sent ++ option_to_list end.held) collected related unstopped joined.collects))
 
-      -- what is made for each link is related as far
-      pub each_related : (n : ℕ) → AreUnstopped s n received → Related s n received collected
-          → (b : ℕ) → b ≤ length parts
-          → Related s (length start.free + n) (made_at parts came b) (given b)
-      each_related n unstopped related =
-          link_related s now received (length start.free + n) (taken (suc s.last)) 0 start.stages
-          parts came are_parts.end.left given₀ (omega (arith, part_count)) joined.steps
-          joined.links joined.last_link long heads working are_parcels few
-          (spent_related s (length start.free + n) came (came_spent n unstopped related))
+    -- what is made for each link is related as far
+    pub each_related : (n : ℕ) → AreUnstopped s n received → Related s n received collected
+        → (b : ℕ) → b ≤ length parts
+        → Related s (length start.free + n) (made_at parts came b) (given b)
+    each_related n unstopped related =
+        link_related s now received (length start.free + n) (taken (suc s.last)) 0 start.stages
+        parts came its.end.left given₀ (omega (arith, part_count)) joined.steps
+        joined.links joined.last_link long heads working are_parcels few
+        (spent_related s (length start.free + n) came (came_spent n unstopped related))
 
-      turn : (n : ℕ) → AreUnstopped s n received → Related s n received collected
-          → Related s (suc n) received collected
-      turn n unstopped related =
-          let (more, is) = made_front s now received start.stages parts came are_parts.end.left
-          joined.steps joined.links joined.last_link (length parts) (omega arith) in
-          let last_is = is
-          ∙ ap (λ (l : List ParcelView). l ++ more) (received_last parts received) in
-          related_front s (suc n) received more (given (length parts))
-          (subst (λ (l : List ParcelView). Related s (suc n) l (given (length parts))) last_is
-          (related_less s (suc n) (length start.free + n)
-          (omega (arith, state.begun.free_parcels, state.begun.some_stage))
-          (made_at parts came (length parts)) (given (length parts))
-          (each_related n unstopped related (length parts) (omega arith))))
+    turn : (n : ℕ) → AreUnstopped s n received → Related s n received collected
+        → Related s (suc n) received collected
+    turn n unstopped related =
+        let (more, is) = made_front s now received start.stages parts came its.end.left
+        joined.steps joined.links joined.last_link (length parts) (omega arith) in
+        let last_is = is
+        ∙ ap (λ (l : List ParcelView). l ++ more) (received_last parts received) in
+        related_front s (suc n) received more (given (length parts))
+        (subst (λ (l : List ParcelView). Related s (suc n) l (given (length parts))) last_is
+        (related_less s (suc n) (length start.free + n)
+        (omega (arith, state.begun.free_parcels, state.begun.some_stage))
+        (made_at parts came (length parts)) (given (length parts))
+        (each_related n unstopped related (length parts) (omega arith))))
 
-      pub unstopped_fewer : (n : ℕ) (l : List ParcelView) → AreUnstopped s (suc n) l
-          → AreUnstopped s n l
-      unstopped_fewer zero l unstopped = tt
-      unstopped_fewer (suc n) [] unstopped = tt
-      unstopped_fewer (suc n) (p ∷ l) unstopped =
-          (unstopped.0, unstopped_fewer n l unstopped.1)
+    pub unstopped_fewer : (n : ℕ) (l : List ParcelView) → AreUnstopped s (suc n) l
+        → AreUnstopped s n l
+    unstopped_fewer zero l unstopped = tt
+    unstopped_fewer (suc n) [] unstopped = tt
+    unstopped_fewer (suc n) (p ∷ l) unstopped =
+        (unstopped.0, unstopped_fewer n l unstopped.1)
 
-      -- what the collector took is related, up to one past those that weren't stopped
-      pub reach : (n : ℕ) → AreUnstopped s n received → Related s (suc n) received collected
-      reach zero unstopped = turn 0 tt tt
-      reach (suc n) unstopped =
-          turn (suc n) unstopped (reach n (unstopped_fewer n received unstopped))
+    -- what the collector took is related, up to one past those that weren't stopped
+    pub reach : (n : ℕ) → AreUnstopped s n received → Related s (suc n) received collected
+    reach zero unstopped = turn 0 tt tt
+    reach (suc n) unstopped =
+        turn (suc n) unstopped (reach n (unstopped_fewer n received unstopped))

@@ -30,7 +30,10 @@ pub mod Fresh
 pub mod Totals
 pub mod Chain
 pub mod Alike
+pub mod RoundsCome
+pub mod HeldStages
 pub mod ParcelsFit
+pub mod Carrying
 pub mod Rows
 pub mod Room
 pub mod Endings
@@ -44,6 +47,7 @@ pub mod Plans
 pub mod Tapes
 pub mod Naming
 pub mod PlanRuns
+pub mod StagesFit
 pub mod NewLoops
 pub mod Places
 pub mod NewForward

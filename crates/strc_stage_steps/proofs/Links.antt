@@ -6,7 +6,7 @@ use Rattle.std.proofs.Common.{option_to_list, arith, append_assoc, length-append
 use Rattle.std.proofs.lemmas.List.{length-take-le}
 use Rattle.strc_stage_core.specs.Actors.{Step}
 use Rattle.strc_stage_core.specs.Parts as ring
-use Rattle.strc_stage_core.specs.Parts.{Part, received_by, AreLinked}
+use Rattle.strc_stage_core.specs.Parts.{received_by, AreLinked}
 use Rattle.strc_stage_core.specs.States.{Runs}
 use Rattle.strc_stage_core.proofs.Runs.{runs_length}
 use Rattle.strc_stage_core.specs.Parcels.{ParcelView}
@@ -14,30 +14,18 @@ use Rattle.strc_sched_laws.specs.Fits.{Queues}
 use Rattle.strc_elab_dataflow.specs.Parcels.{IsWorking}
 use Rattle.strc_elab_dataflow.specs.Stages.{Stage.Works}
 use Rattle.strc_elab_dataflow.specs.Workers.{AreSteps, AreParcels}
+use Rattle.strc_stage_steps.specs.Carrying.{StagePart, made_by, made_at}
 use Rattle.strc_stage_steps.specs.Steps.{stage_work}
 use Rattle.strc_stage_steps.proofs.Follows.{Worker, Generic, GenericStage, all_made, made_steps}
 use Rattle.strc_stage_steps.proofs.Follows.{made_length, Related, follows}
 use Rattle.strc_stage_steps.proofs.Held.{IsHeld}
 use Rattle.strc_stage_steps.proofs.Setting.{Setting, staging}
 
-abbrev pub StagePart : Type 0
-StagePart = Part Worker ParcelView
-
--- what a stage made: it sent it, or holds it
-abbrev pub made_by : StagePart → List ParcelView
-made_by part = part.sent ++ option_to_list part.held
-
 -- what was received from each link; past the stages it is what the collector received
 abbrev pub received_at : List StagePart → (last : List ParcelView) → ℕ → List ParcelView
 received_at [] last b = last
 received_at (part ∷ parts) last zero = part.received
 received_at (part ∷ parts) last (suc b) = received_at parts last b
-
--- what was made for each link, where these came to the first stage
-abbrev pub made_at : List StagePart → (first : List ParcelView) → ℕ → List ParcelView
-made_at parts first zero = first
-made_at [] first (suc b) = []
-made_at (part ∷ parts) first (suc b) = made_at parts (made_by part) b
 
 module _ (s : Setting) where
   -- the first so many of a front are those of the whole

@@ -1,14 +1,12 @@
 -- Each parcel that a stage or the collector can take has what it is to have there.
 use Rattle.std.proofs.Common.{◌≡◌, refl, sym, ap, ◌∙◌, subst, ℕ, zero, suc, ◌+◌, ◌*◌, ◌-◌, ◌<◌, ◌≤◌}
-use Rattle.std.proofs.Common.{List, [], ◌∷◌, ◌++◌, length, map, Option, Some, None}
+use Rattle.std.proofs.Common.{List, [], ◌∷◌, ◌++◌, length, map, take, Option, Some, None}
 use Rattle.std.proofs.Common.{is_some, IsSome, slice_get, option_to_list, arith, true≢false}
 use Rattle.std.proofs.Common.{append_assoc, length-append}
 use Rattle.std.proofs.lemmas.Bool.{cases_lt}
-use Rattle.std.proofs.lemmas.List.{length-map}
+use Rattle.std.proofs.lemmas.List.{length-map, take_at}
 use Rattle.std.proofs.lemmas.Option.{none-some, same_Some}
 use mathlib.Core.Logic.{inl, inr}
-use Rattle.strc_work_meaning.specs.declared.word.Word.{Word}
-use Rattle.strc_elab_dataflow.specs.Node.{ByPort}
 use Rattle.strc_stage_core.specs.Actors.{Collector, Collects, Step}
 use Rattle.strc_stage_core.specs.Endings.{AreRunning, AreStopped, StayStopped}
 use Rattle.strc_stage_core.specs.Events as events
@@ -22,9 +20,6 @@ use Rattle.strc_stage_core.specs.declared.stop.Stop.{Stop}
 use Rattle.strc_stage_core.specs.Parcels.{Load, ParcelView}
 use Rattle.strc_sched_laws.specs.Machine.{MachineView}
 use Rattle.strc_sched_laws.specs.Simulation.{Simulates}
-use Rattle.strc_elab_dataflow.specs.Parcels.{HasMoved}
-use Rattle.strc_elab_dataflow.specs.Stages.{Parcel.Moves, Parcel.Halts}
-use Rattle.strc_elab_dataflow.specs.Workers.{AreParcels}
 use Rattle.strc_elab_dataflow.proofs.Fits.{block_at_rate}
 use Rattle.strc_stage_steps.specs.Beginnings.{IsBeginning}
 use Rattle.strc_stage_steps.specs.CrossingBlocks.{FitsBefore}
@@ -34,10 +29,12 @@ use Rattle.strc_stage_steps.proofs.Chain.{AreParts, are_parts, collected, given,
 use Rattle.strc_stage_steps.proofs.Chain.{few}
 use Rattle.strc_stage_steps.proofs.Chain.{came_spent, each_related, reach, part_count}
 use Rattle.strc_stage_steps.proofs.Chain.{unstopped_fewer}
-use Rattle.strc_stage_steps.proofs.Follows.{Worker, Generic, Related, Relates}
+use Rattle.strc_stage_steps.proofs.Follows.{Worker, Generic, Related}
 use Rattle.strc_stage_steps.proofs.Fresh.{AreSpent, AreUnstopped, IsClear, IsSpent}
-use Rattle.strc_stage_steps.proofs.Held.{IsLoaded, crosses_from, no_block}
-use Rattle.strc_stage_steps.proofs.Links.{StagePart, made_by, received_at, made_at}
+use Rattle.strc_stage_steps.proofs.Held.{crosses_from, no_block}
+use Rattle.strc_stage_steps.specs.Carrying.{StagePart, made_at, made_by}
+use Rattle.strc_stage_steps.proofs.Links.{received_at}
+use Rattle.strc_stage_steps.proofs.RoundsCome.{HasCome, IsKnown, known_at}
 use Rattle.strc_stage_steps.proofs.Setting.{Setting, setting, staging, stage_of, is_staging}
 use Rattle.strc_stage_steps.proofs.Setting.{rate_at, port_is, origin_is}
 
@@ -74,7 +71,7 @@ there : (xs : List ParcelView) (p : ParcelView) (ys : List ParcelView)
 there [] p ys = refl
 there (x ∷ xs) p ys = there xs p ys
 
-in_front : (xs ys : List ParcelView) (k : ℕ) (p : ParcelView) → slice_get xs k ≡ Some p
+pub in_front : (xs ys : List ParcelView) (k : ℕ) (p : ParcelView) → slice_get xs k ≡ Some p
     → slice_get (xs ++ ys) k ≡ Some p
 in_front [] ys k p e = absurd (none-some p e)
 in_front (x ∷ xs) ys zero p e = e
@@ -148,55 +145,10 @@ module _ (s : Setting) where
   spent_there (suc n) (x ∷ xs) p ys less spent =
       spent_there n xs p ys (omega (arith, less)) spent.1
 
-  -- the blocks and words of one that has moved
-  record IsMoving (b t : ℕ) (p : ParcelView) : Type 0 where
-    blocks : ℕ → ByPort
-    words : ℕ → List Word
-    loaded : IsLoaded s p.load blocks words
-    moved : HasMoved (staging s) b t blocks words
-
-  moving_by : (collection : List Generic) (b t : ℕ) (p : ParcelView) (why : Option Stop)
-      (parcel : Generic) (others : List Generic) → why ≡ None → Relates s why p.load parcel
-      → AreParcels (staging s) collection b t (parcel ∷ others) → IsMoving b t p
-  moving_by collection b t p None (Moves blocks words) others e loaded are =
-      record { blocks = blocks; words = words; loaded = loaded; moved = are.0 }
-  moving_by collection b t p None (Halts why) others e loaded are = absurd loaded
-  moving_by collection b t p (Some why) parcel others e relates are =
-      absurd (true≢false (ap is_some e))
-
-  rest_by : (collection : List Generic) (b t : ℕ) (load : Load) (why : Option Stop)
-      (parcel : Generic) (others : List Generic) → why ≡ None → Relates s why load parcel
-      → AreParcels (staging s) collection b t (parcel ∷ others)
-      → AreParcels (staging s) collection b (suc t) others
-  rest_by collection b t load None (Moves blocks words) others e loaded are = are.1
-  rest_by collection b t load None (Halts why) others e loaded are = absurd loaded
-  rest_by collection b t load (Some why) parcel others e relates are =
-      absurd (true≢false (ap is_some e))
-
-  moving_there : (collection : List Generic) (n b t : ℕ) (xs : List ParcelView) (p : ParcelView)
-      (ys : List ParcelView) (others : List Generic) → length xs < n → AreRunning xs
-      → p.stop ≡ None → Related s n (xs ++ (p ∷ ys)) others
-      → AreParcels (staging s) collection b t others → IsMoving b (t + length xs) p
-  moving_there collection zero b t xs p ys others less running none related are =
-      absurd (omega (arith, less))
-  moving_there collection (suc n) b t [] p ys (parcel ∷ others) less running none related are =
-      subst (λ (m : ℕ). IsMoving b m p) (let e : t ≡ t + 0 = omega arith in e)
-      (moving_by collection b t p p.stop parcel others none related.0 are)
-  moving_there collection (suc n) b t (x ∷ xs) p ys (parcel ∷ others) less running none related
-      are =
-      subst (λ (m : ℕ). IsMoving b m p)
-      (let e : suc t + length xs ≡ t + suc (length xs) = omega arith in e)
-      (moving_there collection n b (suc t) xs p ys others (omega (arith, less)) running.1 none
-      (related.1 running.0)
-      (rest_by collection b t x.load x.stop parcel others running.0 related.0 are))
-  moving_there collection (suc n) b t [] p ys [] less running none related are = absurd related
-  moving_there collection (suc n) b t (x ∷ xs) p ys [] less running none related are =
-      absurd related
-
   -- such a parcel fits
-  moving_fits : (b t : ℕ) (p : ParcelView) → t < s.rounds → IsMoving b t p
-      → FitsBefore s.running s.bound s.last b p.load
-  moving_fits b t p is_round is = record {
+  come_fits : (b t : ℕ) (load : Load) → t < s.rounds → HasCome s b t load
+      → FitsBefore s.running s.bound s.last b load
+  come_fits b t load is_round is = record {
     shaped = is.loaded.shaped;
     moving = λ number channel listed early later.
         ap length (is.loaded.blocks_are number channel listed
@@ -270,7 +222,7 @@ module _ (s : Setting) where
     stays_at [] (part ∷ parts) first steps b less = absurd steps
     stays_at (stage₀ ∷ stages₀) [] first steps b less = absurd steps
 
-    made_few : (stages₀ : List Worker) (parts : List StagePart) (first : List ParcelView)
+    pub made_few : (stages₀ : List Worker) (parts : List StagePart) (first : List ParcelView)
         (most : ℕ) → ring.AreSteps stage_work stages₀ parts → AreLinked parts last
         → length (received_by parts last) ≤ most → (b : ℕ) → b < length parts
         → length (made_at parts first (suc b)) ≤ most
@@ -344,22 +296,19 @@ module _ (s : Setting) (started : MachineView)
     (holds : Simulates s.running.graph s.running.sizes s.circuit.input s.from started)
     (start : Start StageState Load Stop Gathered)
     (beginning : IsBeginning s.running s.bound s.last s.circuit started s.rounds start)
-    (core : Core StageState Load Stop Gathered) (state : IsState stage_work start core) where
-  -- the lists of the state
-  abbrev its : AreParts s started holds start beginning core state
-  its = are_parts s started holds start beginning core state
-
-  abbrev got : List ParcelView
+    (core : Core StageState Load Stop Gathered) (state : IsState stage_work start core)
+    (its : AreParts start core) where
+  abbrev pub got : List ParcelView
   got = its.end.received
 
-  abbrev at_head : List ParcelView
+  abbrev pub at_head : List ParcelView
   at_head = start.free ++ its.end.sent
 
-  abbrev on_link : ℕ → List Generic
-  on_link = given s started holds start beginning core state
+  abbrev pub on_link : ℕ → List Generic
+  on_link = given s started holds start beginning core state its
 
-  abbrev took : List Generic
-  took = collected s started holds start beginning core state
+  abbrev pub took : List Generic
+  took = collected s started holds start beginning core state its
 
   count : length core.stages ≡ length its.parts
   unfolding core_of
@@ -371,20 +320,20 @@ module _ (s : Setting) (started : MachineView)
   unfolding core_of
   links_are = ap (λ (c : Core StageState Load Stop Gathered). c.links) its.same
 
-  related_so_far : (n : ℕ) → AreUnstopped s n got → Related s n got took
+  pub related_so_far : (n : ℕ) → AreUnstopped s n got → Related s n got took
   related_so_far zero unstopped = tt
   related_so_far (suc n) unstopped =
-      reach s started holds start beginning core state beginning.going n
-      (unstopped_fewer s started holds start beginning core state beginning.going n
+      reach s started holds start beginning core state its n
+      (unstopped_fewer s started holds start beginning core state its n
       got unstopped)
 
   -- how far a parcel that isn't stopped shows that the collector has taken no stopped one
-  record IsReached (k : ℕ) : Type 0 where
-    n : ℕ
-    far : k < length start.free + n
-    unstopped : AreUnstopped s n got
+  pub record IsReached (k : ℕ) : Type 0 where
+    pub n : ℕ
+    pub far : k < length start.free + n
+    pub unstopped : AreUnstopped s n got
 
-  reached : (b k : ℕ) (p : ParcelView) → b ≤ length its.parts
+  pub reached : (b k : ℕ) (p : ParcelView) → b ≤ length its.parts
       → slice_get (made_at its.parts at_head b) k ≡ Some p → p.stop ≡ None → IsReached k
   reached b k p less e none =
       let (q, came_q, none_q) = from_first s got start.stages its.parts at_head its.end.left
@@ -403,7 +352,7 @@ module _ (s : Setting) (started : MachineView)
               unstopped = unstopped_upto s got j r
                   (stays_last s got start.stages its.parts (omega (
                     arith,
-                    part_count s started holds start beginning core state,
+                    part_count s started holds start beginning core state its,
                   )) its.joined.steps its.joined.links) taken_r none_r;
             }
       ]
@@ -423,15 +372,15 @@ module _ (s : Setting) (started : MachineView)
       ∙ ap (λ (l : List ParcelView). xs ++ l) left in
       let far = reached 0 (length xs) p (omega arith)
       (ap (λ (l : List ParcelView). slice_get l (length xs)) is ∙ there xs p rest) none in
-      let spent = came_spent s started holds start beginning core state
-      beginning.going far.n far.unstopped (related_so_far far.n far.unstopped) in
+      let spent = came_spent s started holds start beginning core state its far.n far.unstopped
+      (related_so_far far.n far.unstopped) in
       elim (spent_there s (length start.free + far.n) xs p rest far.far
       (subst (AreSpent s (length start.free + far.n)) is spent)) [
         | inl clear ↦ clear_fits s p.load clear.1
         | inr memory ↦ absurd (true≢false (sym (ap is_some memory) ∙ ap is_some none))
       ]
   fits_at (suc b) p rest less e none =
-      let parts_are = part_count s started holds start beginning core state in
+      let parts_are = part_count s started holds start beginning core state its in
       let below : b < length its.parts = omega (arith, less, parts_are) in
       let (more, is) = left_at s got start.stages its.parts at_head its.end.left (p ∷ rest)
       its.joined.steps its.joined.links b below
@@ -441,28 +390,32 @@ module _ (s : Setting) (started : MachineView)
       let far = reached (suc b) (length xs) p (omega (arith, below))
       (ap (λ (l : List ParcelView). slice_get l (length xs)) is ∙ there xs p (rest ++ more)) none
       in
-      let related = each_related s started holds start beginning core state
-      beginning.going far.n far.unstopped (related_so_far far.n far.unstopped) (suc b)
+      let related = each_related s started holds start beginning core state its far.n
+      far.unstopped (related_so_far far.n far.unstopped) (suc b)
       (omega (arith, below)) in
       let stays = stays_at s got start.stages its.parts at_head its.joined.steps b below in
       let in_time : 0 + length xs < s.rounds = omega (
         arith,
         made_few s got start.stages its.parts at_head s.rounds its.joined.steps its.joined.links
-            (few s started holds start beginning core state) b below,
+            (few s started holds start beginning core state its) b below,
         ap length is,
         length-append xs (p ∷ (rest ++ more)),
       ) in
-      moving_fits s (suc b) (0 + length xs) p in_time
-      (moving_there s (taken s started holds start beginning core state (suc s.last))
-      (length start.free + far.n) (suc b) 0 xs p (rest ++ more) (on_link (suc b)) far.far
-      (running_before xs p (rest ++ more) (subst StayStopped is stays) none) none
-      (subst (λ (l : List ParcelView). Related s (length start.free + far.n) l (on_link (suc b)))
-      is related)
-      (given_are s started holds start beginning core state (suc b)
-      (omega (arith, below))))
+      come_fits s (suc b) (0 + length xs) p.load in_time
+      (subst (λ (why : Option Stop). IsKnown s (taken s started holds start beginning core state
+      its (suc s.last)) (suc b) (0 + length xs) why p.load) none
+      (known_at s (taken s started holds start beginning core state its (suc s.last))
+      (length start.free + far.n) (suc b) 0 made (length xs) p (on_link (suc b)) far.far
+      (ap (λ (l : List ParcelView). slice_get l (length xs)) is ∙ there xs p (rest ++ more))
+      (subst AreRunning (sym (ap (take (length xs)) is ∙ take_at xs (p ∷ (rest ++ more)) (length xs)
+      refl))
+      (running_before xs p (rest ++ more) (subst StayStopped is stays) none))
+      related
+      (given_are s started holds start beginning core state its (suc b)
+      (omega (arith, below)))))
 
 pub parcels_fit : ParcelsFit
 parcels_fit running by_source from rounds bound last circuit started start core is holds beginning
     state =
     fits_at (setting running by_source from rounds bound last circuit is) started holds start
-    beginning core state
+    beginning core state (are_parts start core state)

@@ -33,11 +33,14 @@ use Rattle.strc_sched_laws.proofs.RingRuns.{ring_runs}
 use Rattle.strc_sched_laws.proofs.Rounds.{round_nodes}
 use Rattle.strc_stage_core.specs.Events.{before}
 use Rattle.strc_stage_core.specs.Events.{is_over}
+use Rattle.strc_stage_core.specs.Parts.{AreJoined, core_of}
 use Rattle.strc_stage_core.specs.States.{Start, Core, IsState}
+use Rattle.strc_stage_core.proofs.Joining.{joined_state}
 use Rattle.strc_stage_core.specs.declared.stop as parcels
 use Rattle.strc_stage_core.specs.Parcels.{ParcelView}
 use Rattle.strc_stage_core.specs.Parcels.{Load}
 use Rattle.strc_elab_dataflow.specs.Chains.{IsResumption}
+use Rattle.strc_elab_dataflow.proofs.RestartChains.{restarted_is_staging}
 use Rattle.strc_elab_dataflow.specs.Restart.{restarted_meaning, restarted, taken_in}
 use Rattle.strc_elab_dataflow.specs.Staging.{IsStaged, in_stage, joined, IsFromUpTo}
 use Rattle.strc_elab_dataflow.specs.Cut.{AllIn}
@@ -53,9 +56,12 @@ use Rattle.strc_stage_plan.proofs.Fused.{graphs_resume, rounds_balance}
 use Rattle.strc_stage_plan.specs.Plans.{PlanParts, IsPlan, graph_of}
 use Rattle.strc_stage_steps.specs.Beginnings.{IsBeginning}
 use Rattle.strc_stage_steps.specs.Laws.{TellsOutcome}
+use Rattle.strc_stage_steps.specs.Carrying.{CollectorPart, GoesInRounds, StagePart}
+use Rattle.strc_stage_steps.specs.Runnings as runnings
 use Rattle.strc_stage_steps.specs.Runnings.{HasRoom, Running, CanGoOn}
 use Rattle.strc_stage_steps.specs.Steps.{StageState, Gathered, stage_work}
 use Rattle.strc_stage_steps.specs.CrossingBlocks.{FitsBefore}
+use Rattle.strc_stage_steps.proofs.Carrying.{rings_are_in_rounds}
 use Rattle.strc_stage_steps.proofs.ParcelsFit.{parcels_fit}
 use Rattle.strc_stage_steps.proofs.OneMachine.{rounds_run_alike}
 use Rattle.strc_stage_steps.proofs.Room.{rounds_have_room}
@@ -67,7 +73,8 @@ use Rattle.strc_stage_steps.specs.SplitRingsLaws.{nodes_of, running_after, Tells
 use Rattle.strc_stage_steps.specs.Plans.{GoesOn, PlanParcelsFit, PlanRingsHaveRoom}
 use Rattle.strc_stage_steps.specs.Plans.{ComesToAnswer, HasStarted, IsCut, IsPlanAnswer}
 use Rattle.strc_stage_steps.specs.Plans.{IsReadyFor, PlanFaultsAnswer, PlanRingsAnswer}
-use Rattle.strc_stage_steps.specs.Plans.{PlanRoundsAnswer, PlansKeepTapes, RoundsTellAnswer}
+use Rattle.strc_stage_steps.specs.Plans.{PlanRingsAreInRounds, PlanRoundsAnswer, PlansKeepTapes}
+use Rattle.strc_stage_steps.specs.Plans.{RoundsTellAnswer}
 use Rattle.strc_stage_steps.specs.Plans.{Suffices, TellsPlanAnswer, running_of}
 use Rattle.strc_stage_steps.proofs.Naming.{IsOfOrder, named_so, of_order, tapes_are_old}
 use Rattle.strc_stage_steps.proofs.Own.{fires_there, number_bound, numbered, repeats}
@@ -279,6 +286,32 @@ module _ (tree : trees.Stream NodeCode) (plan : PlanParts) (input : List ℤ) (r
         started cut_run holds_own)
         holds_own begun_so state actor parcel rest most there going)
 
+  in_rounds : (bound : (stage : ℕ) → ℕ) (last : ℕ)
+      (start : Start StageState Load parcels.Stop.Stop Gathered) (parts : List StagePart)
+      (end : CollectorPart) → IsCut plan bound (suc last)
+      → IsBeginning (running_of plan) bound last circuit started rounds start
+      → AreJoined stage_work start parts end
+      → GoesInRounds (running_of plan) rounds bound last circuit started start.free parts end
+  in_rounds bound last start parts end cut begun joined =
+      let state = joined_state stage_work start parts end joined in
+      let is_running = graphs_are_running its (threshold plan is) sizes is.whole.stream bound last
+      circuit started (cut_run bound last start (core_of parts end) cut begun state) holds_own in
+      let (inputs, staging) = restarted_is_staging (runnings.resumed (running_after its sizes)
+      (flow_of its) (state_of its) rounds bound last) is_running.resumption in
+      subst (λ (r : Running). GoesInRounds r rounds bound last circuit started start.free parts
+      end) (sym same_running)
+      (record {
+        by_source = flow_of its;
+        from = state_of its;
+        holds = holds_own;
+        is_running = is_running;
+        inputs = inputs;
+        staging = staging;
+        in_rounds = rings_are_in_rounds (running_after its sizes) (flow_of its) (state_of its)
+            rounds bound last circuit started inputs start parts end is_running holds_own staging
+            (begun_so bound last start (core_of parts end) cut begun state) joined;
+      })
+
   module _ (bound : (stage : ℕ) → ℕ) (last : ℕ)
       (start : Start StageState Load parcels.Stop.Stop Gathered)
       (core : Core StageState Load parcels.Stop.Stop Gathered) (cut : IsCut plan bound (suc last))
@@ -381,6 +414,12 @@ plan_parcels_fit tree plan input rounds old circuit started bound last start cor
     enough has cut begun state actor parcel rest most there going =
     fits tree plan input rounds old circuit started program ready enough has bound last start core
     cut begun state actor parcel rest most there going
+
+pub plan_rings_are_in_rounds : PlanRingsAreInRounds
+plan_rings_are_in_rounds tree plan input rounds old circuit started bound last start parts end
+    program ready enough has cut begun joined =
+    in_rounds tree plan input rounds old circuit started program ready enough has bound last start
+    parts end cut begun joined
 
 pub plans_keep_tapes : PlansKeepTapes
 plans_keep_tapes plan is = tapes_are_old plan is

@@ -1,5 +1,5 @@
 -- What a ring of stages begins with: a machine that rounds go on from, cut into stages.
-use Rattle.std.specs.Prelude.{◌≡◌, ◌⊎◌, ℕ, suc, Bool, true, false, not, eqb}
+use Rattle.std.specs.Prelude.{◌≡◌, ◌⊎◌, ℕ, suc, Bool, true, false, ◌&&◌, not, eqb, nat_lt, nat_le}
 use Rattle.std.specs.Prelude.{if◌then◌else◌, List, [], ◌∷◌, length, map, Some}
 use Rattle.std.specs.Prelude.{None, slice_get, slice_index, slice_index_or}
 use Rattle.circular_buffer.specs.Buffer.{buffer}
@@ -17,6 +17,7 @@ use Rattle.strc_elab_dataflow.specs.Ranges.{stage_within}
 use Rattle.strc_stage_plan.specs.Cuts.{segment_of}
 use Rattle.strc_stage_steps.specs.Runnings.{Running, round_pushes}
 use Rattle.strc_stage_steps.specs.Steps.{Crossing, TapeOf, StageState, Gathered}
+use Rattle.strc_stage_steps.specs.declared.stage.Block.{Block}
 
 -- Stages whose nodes go from one bound up to the next.
 module _ (bound : (stage : ℕ) → ℕ) (last : ℕ) where
@@ -51,6 +52,12 @@ module _ (bound : (stage : ℕ) → ℕ) (last : ℕ) where
   abbrev pub leaving_at : (stage : ℕ) → List Channel → List Crossing
   leaving_at stage = crossings_from 0 0 (begins_in stage)
 
+  -- A channel's items are under way before a stage: from the one after that where it begins, up to
+  -- that where it ends.
+  abbrev pub is_under_way : (stage : ℕ) → Channel → Bool
+  is_under_way stage channel =
+      nat_lt (stage_at channel.source.node) stage && nat_le stage (stage_at channel.target.node)
+
   -- The tapes of a stage's nodes: the first of these nodes has this number.
   abbrev pub tapes_from : (tape node stage : ℕ) → List NodeCode → List TapeOf
   tapes_from tape node stage [] = []
@@ -70,6 +77,20 @@ rooms_of crosses running [] = []
 rooms_of crosses running (channel ∷ channels) =
     if crosses channel then round_pushes running channel ∷ rooms_of crosses running channels
     else rooms_of crosses running channels
+
+-- The blocks of a parcel before a stage: each has the room of a round, and holds its items if they
+-- are under way.
+abbrev pub blocks_of : (crosses under_way : Channel → Bool) → Running → List Channel → List Block
+blocks_of crosses under_way running [] = []
+blocks_of crosses under_way running (channel ∷ channels) =
+    if crosses channel then
+    record { room = round_pushes running channel; held = under_way channel }
+    ∷ blocks_of crosses under_way running channels
+    else blocks_of crosses under_way running channels
+
+abbrev pub blocks_before : Running → (bound : (stage : ℕ) → ℕ) → (last stage : ℕ) → List Block
+blocks_before running bound last stage =
+    blocks_of (crosses bound last) (is_under_way bound last stage) running running.graph.channels
 
 module _ (running : Running) (bound : (stage : ℕ) → ℕ) (last : ℕ) (circuit : CircuitView)
     (started : MachineView) where
@@ -118,6 +139,8 @@ module _ (running : Running) (bound : (stage : ℕ) → ℕ) (last : ℕ) (circu
     pub entering_is : state.entering ≡ entering_at bound last stage running.graph.channels
     pub leaving_is : state.leaving ≡ leaving_at bound last stage running.graph.channels
     pub tapes_are : state.tapes ≡ tapes_at bound last stage running.graph.nodes
+    pub blocks_are : state.blocks ≡ blocks_before running bound last stage
+    pub tape_count_is : state.tape_count ≡ length (tape_nodes running.graph.nodes)
     pub machine : MachineView
     pub machine_is : state.machine ≡ Some machine
     pub is_machine : IsMachineOf stage machine
@@ -136,15 +159,16 @@ module _ (running : Running) (bound : (stage : ℕ) → ℕ) (last : ℕ) (circu
     rounds = 0;
   }
 
-  -- What a ring begins with, for so many rounds.
+  -- What a ring begins with, for so many rounds: nothing has stopped. All have finished at first where
+  -- there are none.
   pub record IsBeginning (rounds : ℕ) (start : Start StageState Load Stop Gathered) : Type 0 where
     pub is_start : IsStart start
-    pub going : start.done ≡ false
     pub stages : length start.stages ≡ suc last
     pub each : (number : ℕ) (own : actors.Stage StageState Stop)
         → slice_get start.stages number ≡ Some own
-        → IsStageOf number own.inner
+        → IsStageOf number own.inner × (own.stop ≡ None)
     pub free : (number : ℕ) (own : ParcelView) → slice_get start.free number ≡ Some own
         → IsFree own
     pub rounds_are : start.collector.rounds ≡ rounds
     pub total : start.collector.total ≡ first_total
+    pub no_stop : start.collector.stop ≡ None

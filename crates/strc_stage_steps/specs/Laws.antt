@@ -17,6 +17,7 @@ use Rattle.strc_sched_laws.specs.Machine.{Ending, Ended, FaultedIn, rounds_run, 
 use Rattle.strc_sched_laws.specs.RingAnswer.{Tells}
 use Rattle.strc_sched_laws.specs.Simulation.{Simulates}
 use Rattle.strc_stage_core.specs.Events.{is_over, before}
+use Rattle.strc_stage_core.specs.Parts.{AreJoined}
 use Rattle.strc_stage_core.specs.States.{Start, Core, IsState}
 use Rattle.strc_stage_core.specs.declared.stop.Stop.{Stop}
 use Rattle.strc_stage_core.specs.declared.stop.Stop.TheVariants as stop
@@ -30,6 +31,7 @@ use Rattle.strc_elab_dataflow.specs.Stages.{entered}
 use Rattle.strc_elab_dataflow.specs.Staging.{IsStaging}
 use Rattle.strc_stage_steps.specs.Steps.{StageState, Gathered, stage_work, stage_run}
 use Rattle.strc_stage_steps.specs.Beginnings.{IsBeginning}
+use Rattle.strc_stage_steps.specs.Carrying.{AreInRounds, CollectorPart, StagePart}
 use Rattle.strc_stage_steps.specs.CrossingBlocks.{FitsBefore}
 use Rattle.strc_stage_steps.specs.Holding.{IsHeld, IsLoaded, StepsAlike}
 use Rattle.strc_stage_steps.specs.Runnings.{Running, resumed, CanGoOn, HasRoom, IsRunning}
@@ -99,6 +101,23 @@ ParcelsFit =
     → slice_get core.links (before (length core.stages) actor) ≡ Some (parcel ∷ rest)
     → parcel.stop ≡ None
     → FitsBefore running bound last actor parcel.load
+
+-- In any state, whatever its stages and its collector have received, sent and hold: parcels carry
+-- what the rounds of the equations give, and stages hold it. The equations are those of the graph
+-- restarted at the state.
+abbrev pub RingsAreInRounds : Type 0
+RingsAreInRounds =
+    (running : Running) (by_source : flat.Graph NodeCode) (from : Queues) (rounds : ℕ)
+    (bound : (stage : ℕ) → ℕ) (last : ℕ) (circuit : CircuitView) (started : MachineView)
+    (inputs : ℕ → ℕ → ByPort) (start : Start StageState Load Stop Gathered)
+    (parts : List StagePart) (end : CollectorPart)
+    → IsRunning running by_source from rounds bound last circuit
+    → Simulates running.graph running.sizes circuit.input from started
+    → IsStaging (staging_from (resumed running by_source from rounds bound last) inputs)
+    → IsBeginning running bound last circuit started rounds start
+    → AreJoined stage_work start parts end
+    → AreInRounds running from bound last circuit
+    (staging_from (resumed running by_source from rounds bound last) inputs) start.free parts end
 
 -- One step of a stage over rings. Where it holds the state of the generic stage before a round, and
 -- a load holds what has moved so far in the round, its order comes to what that of the generic

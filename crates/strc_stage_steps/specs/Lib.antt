@@ -13,6 +13,7 @@ pub mod Runnings
 pub mod Beginnings
 pub mod CrossingBlocks
 pub mod Holding
+pub mod Carrying
 pub mod Laws
 pub mod Rows
 pub mod SplitRingsLaws

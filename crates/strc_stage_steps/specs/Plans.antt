@@ -1,6 +1,6 @@
 -- Plans: their rounds are those of the graph after fission, and what these come to is the answer of
 -- the stream equations, in the plan's order by the nodes before fission.
-use Rattle.std.specs.Prelude.{◌≡◌, ℕ, suc, ◌<◌, ◌≤◌, ◌^◌, true, ℤ, List, ◌∷◌, length, map}
+use Rattle.std.specs.Prelude.{◌≡◌, ℕ, suc, ◌<◌, ◌≤◌, ◌^◌, true, false, ℤ, List, ◌∷◌, length, map}
 use Rattle.std.specs.Prelude.{Option, Some, None, slice_get}
 use Rattle.strc_elab_dataflow.specs.Answer.{Outcome, IsAnswer, Outcome.StartupFault}
 use Rattle.strc_elab_dataflow.specs.Flat as flat
@@ -26,11 +26,15 @@ use Rattle.strc_stage_plan.specs.Named.{old_node}
 use Rattle.strc_stage_plan.specs.Plans.{PlanParts, IsPlan, graph_of, transformed_of}
 use Rattle.strc_stage_plan.specs.Bounds.{stage_bound, stage_count}
 use Rattle.strc_stage_plan.specs.Cuts.{IsCutOf}
+use Rattle.strc_stage_core.specs.Actors.{Stage}
 use Rattle.strc_stage_core.specs.Events.{is_over, before}
+use Rattle.strc_stage_core.specs.Parts.{AreJoined}
 use Rattle.strc_stage_core.specs.States.{Start, Core, IsState}
 use Rattle.strc_stage_core.specs.declared.stop.Stop.{Stop}
 use Rattle.strc_stage_core.specs.Parcels.{Load, ParcelView}
 use Rattle.strc_stage_steps.specs.Beginnings.{IsBeginning}
+use Rattle.strc_stage_steps.specs.Blocks.{fits_stage}
+use Rattle.strc_stage_steps.specs.Carrying.{CollectorPart, GoesInRounds, StagePart}
 use Rattle.strc_stage_steps.specs.CrossingBlocks.{FitsBefore}
 use Rattle.strc_stage_steps.specs.Laws.{TellsOutcome}
 use Rattle.strc_stage_steps.specs.Runnings.{CanGoOn, Running}
@@ -139,6 +143,38 @@ PlanParcelsFit =
     → slice_get core.links (before (length core.stages) actor) ≡ Some (parcel ∷ rest)
     → parcel.stop ≡ None
     → FitsBefore (running_of plan) bound last actor parcel.load
+
+-- So each parcel that a stage can take fits it.
+abbrev pub PlanParcelsFitStages : Type 0
+PlanParcelsFitStages =
+    (tree : trees.Stream NodeCode) (plan : PlanParts) (input : List ℤ) (rounds : ℕ)
+    (old circuit : CircuitView) (started : MachineView) (bound : (stage : ℕ) → ℕ) (last : ℕ)
+    (start : Start StageState Load Stop Gathered) (core : Core StageState Load Stop Gathered)
+    → IsProgram tree (graph_of plan)
+    → IsReadyFor plan input old → Suffices plan input rounds
+    → HasStarted plan input old circuit started
+    → IsCut plan bound (suc last)
+    → IsBeginning (running_of plan) bound last circuit started rounds start
+    → IsState stage_work start core
+    → (number : ℕ) (stage : Stage StageState Stop) (parcel : ParcelView) (rest : List ParcelView)
+    → slice_get core.stages number ≡ Some stage → stage.finished ≡ false
+    → slice_get core.links (before (length core.stages) number) ≡ Some (parcel ∷ rest)
+    → fits_stage stage parcel ≡ true
+
+-- And whatever its stages and its collector have received, sent and hold, parcels carry what the
+-- rounds of the equations give, and stages hold it.
+abbrev pub PlanRingsAreInRounds : Type 0
+PlanRingsAreInRounds =
+    (tree : trees.Stream NodeCode) (plan : PlanParts) (input : List ℤ) (rounds : ℕ)
+    (old circuit : CircuitView) (started : MachineView) (bound : (stage : ℕ) → ℕ) (last : ℕ)
+    (start : Start StageState Load Stop Gathered) (parts : List StagePart) (end : CollectorPart)
+    → IsProgram tree (graph_of plan)
+    → IsReadyFor plan input old → Suffices plan input rounds
+    → HasStarted plan input old circuit started
+    → IsCut plan bound (suc last)
+    → IsBeginning (running_of plan) bound last circuit started rounds start
+    → AreJoined stage_work start parts end
+    → GoesInRounds (running_of plan) rounds bound last circuit started start.free parts end
 
 -- ---- what it comes to
 

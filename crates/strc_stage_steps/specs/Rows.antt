@@ -1,6 +1,6 @@
 -- A worked row: a source in one stage and a writer in the next. The source gives 7 in its first
 -- firing, and faults in its second one.
-use Rattle.std.specs.Prelude.{◌≡◌, ℕ, pos, Bool, true, false, List, [], ◌∷◌, Option, Some, None}
+use Rattle.std.specs.Prelude.{◌≡◌, ℕ, pos, nat_lt, Bool, true, false, List, [], ◌∷◌, Option, Some, None}
 use Rattle.circular_buffer.specs.Buffer.{buffer}
 use Rattle.strc_parse_tree.specs.Tree as tree
 use Rattle.strc_parse_tree.specs.declared.tree.ItemType.TheVariants as item
@@ -74,6 +74,8 @@ state_of stage = record {
   entering = entering_at bound 1 stage channels;
   leaving = leaving_at bound 1 stage channels;
   tapes = tapes_at bound 1 stage codes;
+  blocks = record { room = 1; held = nat_lt 0 stage } ∷ [];
+  tape_count = 1;
   machine = Some machine;
 }
 

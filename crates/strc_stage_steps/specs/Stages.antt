@@ -19,6 +19,8 @@ state_of parts = record {
   entering = parts.entering.items;
   leaving = parts.leaving.items;
   tapes = parts.tapes.items;
+  blocks = parts.blocks.items;
+  tape_count = parts.tape_count;
   machine = if parts.broken then None else Some (machine_view parts.machine);
 }
 

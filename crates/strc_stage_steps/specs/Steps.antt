@@ -9,18 +9,22 @@ use Rattle.strc_stage_core.specs.Parcels as parcels
 use Rattle.strc_stage_core.specs.Parcels.{Load, block_at, with_block, with_words, filled}
 pub use Rattle.strc_stage_steps.specs.declared.crossing_items.Crossing.{Crossing}
 pub use Rattle.strc_stage_steps.specs.declared.crossing_items.TapeOf.{TapeOf}
+use Rattle.strc_stage_steps.specs.declared.stage.Block.{Block}
 use Rattle.strc_sched_laws.specs.Machine.{CircuitView, MachineView, Progress, Went, Stopped}
 use Rattle.strc_sched_laws.specs.Machine.{order_run, words_at}
 use Rattle.strc_sched_laws.specs.Rings.{Ring, ring_at, items_at, given}
 
 -- What a stage works on: its circuit and its order; the channels that come from other stages, those
--- that go to others, and its tapes; and its machine, until a step of it is stopped.
+-- that go to others, and its tapes; the blocks of the parcels that come to it, and how many tapes
+-- these have words of; and its machine, until a step of it is stopped.
 pub record StageState : Type 0 where
   pub circuit : CircuitView
   pub order : List ℕ
   pub entering : List Crossing
   pub leaving : List Crossing
   pub tapes : List TapeOf
+  pub blocks : List Block
+  pub tape_count : ℕ
   pub machine : Option MachineView
 
 -- What the collector has gathered: the words of each tape, and of how many rounds.
@@ -110,6 +114,8 @@ with_machine state machine = record {
   entering = state.entering;
   leaving = state.leaving;
   tapes = state.tapes;
+  blocks = state.blocks;
+  tape_count = state.tape_count;
   machine = machine;
 }
 

@@ -3,7 +3,7 @@
 
 ghost use Rattle.strc_stage_steps.specs.Laws.{OutcomesTellEndings, ParcelsFit};
 ghost use Rattle.strc_stage_steps.specs.Laws.{RoundsHaveRoom, RoundsRunAlike, StageStepsAlike};
-ghost use Rattle.strc_stage_steps.specs.Laws.{StagesRunAlike};
+ghost use Rattle.strc_stage_steps.specs.Laws.{RingsAreInRounds, StagesRunAlike};
 ghost use Rattle.strc_stage_steps.specs.Rows.{TwoStagesRow};
 
 /// A ring of stages that is over, by whatever events, has come to the outcome of the rounds of the
@@ -20,6 +20,12 @@ pub fn stage_steps_alike()
 /// Each parcel that waits for a stage is stopped, or has the blocks that are to come there.
 pub fn parcels_fit()
     ensures { ParcelsFit }
+{}
+
+/// In any state of a ring of stages, parcels carry what the rounds of the equations give, up to the
+/// first stop, and each stage that has not stopped holds what it is to hold.
+pub fn rings_are_in_rounds()
+    ensures { RingsAreInRounds }
 {}
 
 /// Rings that have room in one round have room in each, where rates repeat round by round.

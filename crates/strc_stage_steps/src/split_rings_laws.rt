@@ -7,7 +7,8 @@
 
 ghost use Rattle.strc_stage_steps.specs.SplitRingsLaws.{SplitGraphsAreRunning, SplitRingsAnswer};
 ghost use Rattle.strc_stage_steps.specs.Plans.{PlanBoundsAreACut, PlanFaultsAnswer};
-ghost use Rattle.strc_stage_steps.specs.Plans.{PlanParcelsFit, PlanRingsAnswer};
+ghost use Rattle.strc_stage_steps.specs.Plans.{PlanParcelsFit, PlanParcelsFitStages};
+ghost use Rattle.strc_stage_steps.specs.Plans.{PlanRingsAnswer, PlanRingsAreInRounds};
 ghost use Rattle.strc_stage_steps.specs.Plans.{PlanRingsHaveRoom, PlanRoundsAnswer, PlansKeepTapes};
 
 /// The fused rounds after fission go on from the state that start-up left as stages ask for.
@@ -33,6 +34,17 @@ pub fn plan_rings_have_room()
 /// In any state of a ring of a plan's stages its parcels have just what is to come.
 pub fn plan_parcels_fit()
     ensures { PlanParcelsFit }
+{}
+
+/// So each parcel that a stage can take fits it.
+pub fn plan_parcels_fit_stages()
+    ensures { PlanParcelsFitStages }
+{}
+
+/// And parcels carry what the rounds of the equations give, up to the first stop, and each stage that
+/// has not stopped holds what it is to hold.
+pub fn plan_rings_are_in_rounds()
+    ensures { PlanRingsAreInRounds }
 {}
 
 /// A ring of a plan's stages that is over has come to the answer of the stream equations.
