@@ -1,12 +1,12 @@
 -- The ring that stages, free parcels and a collector are.
 use Rattle.std.proofs.Common.{◌≡◌, refl, sym, ap, ◌∙◌, subst, ℕ, zero, suc, ◌+◌, ◌*◌, ◌<◌}
 use Rattle.std.proofs.Common.{Bool, false, List, [], ◌∷◌, length, map, arith}
-use Rattle.std.proofs.Common.{inl, inr, true≢false}
+use Rattle.std.proofs.Common.{inl, inr}
 use Rattle.std.specs.Prelude.{All, Some, None, nat_eq, slice_get}
 use Rattle.std.specs.Global.{Vec}
 use Rattle.std.specs.Vec.{vec_items}
 use Rattle.std.proofs.lemmas.List.{length-map}
-use Rattle.std.proofs.lemmas.Bool.{ne_eqb}
+use Rattle.std.proofs.lemmas.Bool.{eqb-false, eqb-true, ne_eqb}
 use Rattle.std.proofs.lemmas.Option.{same_Some}
 use Rattle.strc_work_meaning.specs.declared.word.Word.{Word}
 use Rattle.strc_elab_graph.specs.Tapes.{tape_nodes}
@@ -17,7 +17,8 @@ use Rattle.strc_stage_core.specs.States.{AreFresh, IsFresh}
 use Rattle.strc_stage_core.specs.declared.stop.Stop.{Stop}
 use Rattle.strc_stage_core.specs.Parcels.{ParcelView, parcel, empty_load}
 use Rattle.strc_stage_plan.specs.Plans.{PlanParts, transformed_of}
-use Rattle.strc_stage_steps.specs.Beginnings.{IsBeginning, IsFree, IsStageOf, crosses, rooms_of}
+use Rattle.strc_stage_steps.specs.Beginnings.{IsBeginning, IsFree, IsStageOf, crosses}
+use Rattle.strc_stage_steps.specs.Beginnings.{is_under_way, rooms_of}
 use Rattle.strc_stage_steps.specs.Plans.{running_of}
 use Rattle.strc_stage_steps.specs.Steps.{Gathered, StageState}
 use Rattle.strc_stage_steps.specs.Blocks as blocks
@@ -54,19 +55,19 @@ positive : (n : ℕ) → 0 < n → nat_eq n 0 ≡ false
 positive n less = ne_eqb n 0 (λ e. absurd (omega (arith, less, e)))
 
 -- only the first of all stages is the first of its ring
-fresh_from : (rounds number : ℕ) (stages : List StageParts)
+fresh_from : (rounds number : ℕ) (done : Bool) (stages : List StageParts)
     → ((place : ℕ) (own : StageParts) → slice_get stages place ≡ Some own
-    → IsFresh (nat_eq (number + place) 0) rounds false (see own))
-    → AreFresh (nat_eq number 0) rounds false (map see stages)
-fresh_from rounds number [] each = tt
-fresh_from rounds number (own ∷ stages) each = (
+    → IsFresh (nat_eq (number + place) 0) rounds done (see own))
+    → AreFresh (nat_eq number 0) rounds done (map see stages)
+fresh_from rounds number done [] each = tt
+fresh_from rounds number done (own ∷ stages) each = (
   (let e : number + 0 ≡ number = omega arith in
-      subst (λ (n : ℕ). IsFresh (nat_eq n 0) rounds false (see own)) e (each 0 own refl)),
-  subst (λ (t : Bool). AreFresh t rounds false (map see stages))
+      subst (λ (n : ℕ). IsFresh (nat_eq n 0) rounds done (see own)) e (each 0 own refl)),
+  subst (λ (t : Bool). AreFresh t rounds done (map see stages))
       (positive (suc number) (omega arith))
-      (fresh_from rounds (suc number) stages (λ place other there.
+      (fresh_from rounds (suc number) done stages (λ place other there.
       let e : number + suc place ≡ suc number + place = omega arith in
-      subst (λ (n : ℕ). IsFresh (nat_eq n 0) rounds false (see other)) e
+      subst (λ (n : ℕ). IsFresh (nat_eq n 0) rounds done (see other)) e
       (each (suc place) other there))),
 )
 
@@ -74,7 +75,6 @@ fresh_from rounds number (own ∷ stages) each = (
 pub record AreParts (plan : PlanParts) (bounds : List ℕ) (circuit : CircuitView)
     (started : MachineView) (rounds : ℕ) (stages : List StageParts) (free : List ParcelView)
     (words : Vec (Vec Word)) : Type 0 where
-  pub some : 0 < rounds
   pub each : length stages ≡ suc (last_of bounds)
   pub made : AreMade plan bounds circuit started rounds stages
   pub free_each : length free ≡ 2 * length stages
@@ -94,11 +94,14 @@ module _ (plan : PlanParts) (bounds : List ℕ) (circuit : CircuitView)
       let made = parts.made 0 first there in
       inl (is
       ∙ ap (λ (rooms : List ℕ). parcel (empty_load rooms first.tape_count) None false)
-      (ap (map blocks.room_of) made.blocks ∙ rooms_are plan bounds 0)
+      (ap (map blocks.room_of) made.state.blocks_are
+      ∙ rooms_are (crosses (bound_in bounds) (last_of bounds))
+      (is_under_way (bound_in bounds) (last_of bounds) 0) (running_of plan)
+      (transformed_of plan).channels)
       ∙ ap (λ (tapes : ℕ). parcel (empty_load
       (rooms_of (crosses (bound_in bounds) (last_of bounds)) (running_of plan)
       (transformed_of plan).channels) tapes)
-      None false) made.tapes)
+      None false) made.state.tape_count_is)
   free_is first own there (inr is) = inr is
 
   abbrev gathered : List (List Word) → Gathered
@@ -107,42 +110,40 @@ module _ (plan : PlanParts) (bounds : List ℕ) (circuit : CircuitView)
   stages_long : length (map see stages) ≡ suc (last_of bounds)
   stages_long = length-map stages see ∙ parts.each
 
-  going : nat_eq rounds 0 ≡ false
-  going = positive rounds parts.some
-
   pub is_beginning : IsBeginning (running_of plan) (bound_in bounds) (last_of bounds) circuit
       started rounds (record {
         stages = map see stages;
         free = free;
         collector = sees (begun words rounds);
-        done = false;
+        done = nat_eq rounds 0;
       })
   is_beginning = record {
     is_start = record {
       some_stage = omega (arith, stages_long);
       free_parcels = omega (arith, parts.free_each, length-map stages see);
-      fresh = fresh_from rounds 0 stages (λ place own there.
+      fresh = fresh_from rounds 0 (nat_eq rounds 0) stages (λ place own there.
           let e : place ≡ 0 + place = omega arith in
-          subst (λ (n : ℕ). IsFresh (nat_eq n 0) rounds false (see own)) e
+          subst (λ (n : ℕ). IsFresh (nat_eq n 0) rounds (nat_eq rounds 0) (see own)) e
           (parts.made place own there).fresh);
       none_taken = refl;
-      finished_is = going;
-      goes = λ is. parts.some;
+      finished_is = refl;
+      goes = λ going. omega (arith, eqb-false rounds 0 going);
       no_stop = λ is. refl;
-      why_done = λ done. absurd (true≢false (sym done));
+      why_done = λ done. inl (eqb-true rounds 0 done);
     };
-    going = refl;
     stages = stages_long;
     each = λ number own there.
         let image = image_of see stages number own there in
+        let made = parts.made number image.own image.there in
         subst (λ (stage : actors.Stage StageState Stop).
         IsStageOf (running_of plan) (bound_in bounds) (last_of bounds) circuit started number
-        stage.inner)
-        image.is (parts.made number image.own image.there).state;
+        stage.inner × (stage.stop ≡ None))
+        image.is (made.state, made.no_stop);
     free = λ number own there.
         let (first, is) = first_there stages (omega (arith, parts.each)) in
         free_is first own is
         (element (IsFreeFor first) free number own (parts.free_are first is) there);
     rounds_are = refl;
     total = ap (λ (l : List (List Word)). gathered l) parts.words_are;
+    no_stop = refl;
   }

@@ -8,10 +8,11 @@ use Rattle.strc_sched_rings.specs.Parts.{is_within}
 use Rattle.strc_stage_plan.specs.Plans.{PlanParts, transformed_of}
 use Rattle.strc_elab_dataflow.specs.Ranges.{stage_within}
 use Rattle.strc_stage_steps.specs.Beginnings.{crosses, crossings_from, entering_at, leaving_at}
+use Rattle.strc_stage_steps.specs.Beginnings.{blocks_before, blocks_of, is_under_way}
 use Rattle.strc_stage_steps.specs.Beginnings.{ends_in, begins_in, rooms_of, tapes_from}
 use Rattle.strc_stage_steps.specs.CrossingBlocks.{raised}
 use Rattle.strc_stage_steps.specs.Plans.{IsCut, running_of}
-use Rattle.strc_stage_steps.specs.Runnings.{round_pushes}
+use Rattle.strc_stage_steps.specs.Runnings.{Running, round_pushes}
 use Rattle.strc_stage_steps.specs.declared.crossing_items.Crossing.{Crossing}
 use Rattle.strc_stage_steps.specs.declared.crossing_items.TapeOf.{TapeOf}
 use Rattle.strc_stage_steps.specs.Blocks as blocks
@@ -19,7 +20,6 @@ use Rattle.strc_stage_steps.specs.Tapes.{AreAfter}
 use Rattle.strc_stage_steps.specs.declared.stage.Block.{Block}
 use Rattle.strc_stage_cut.specs.Bounds.{bound_in, last_of}
 use Rattle.strc_stage_cut.specs.Links.{link_of, links_of, crossings_in, blocks_in}
-use Rattle.strc_stage_cut.specs.Links.{block_before}
 use Rattle.strc_stage_cut.specs.Tapes.{tapes_in}
 use Rattle.strc_stage_cut.specs.declared.links.Side.TheVariants as side
 use Rattle.strc_stage_cut.proofs.Ranges.{same_test}
@@ -37,10 +37,16 @@ crossing_step true true block ring own others same =
 crossing_step true false block ring own others same = same (suc block)
 crossing_step false pick block ring own others same = same block
 
+block_step : (cross : Bool) (pushes : ℕ) (held : Bool) (own others : List Block) → own ≡ others
+    → (if cross then record { room = if cross then pushes else 0; held = held } ∷ own else own)
+    ≡ (if cross then record { room = pushes; held = held } ∷ others else others)
+block_step true pushes held own others same =
+    ap (λ (l : List Block). record { room = pushes; held = held } ∷ l) same
+block_step false pushes held own others same = same
+
 room_step : (cross : Bool) (pushes : ℕ) (held : Bool) (own : List Block) (rooms : List ℕ)
     → map blocks.room_of own ≡ rooms
-    → map blocks.room_of (if cross then
-    record { room = if cross then pushes else 0; held = held } ∷ own else own)
+    → map blocks.room_of (if cross then record { room = pushes; held = held } ∷ own else own)
     ≡ (if cross then pushes ∷ rooms else rooms)
 room_step true pushes held own rooms same = ap (λ (l : List ℕ). pushes ∷ l) same
 room_step false pushes held own rooms same = same
@@ -82,22 +88,34 @@ module _ (plan : PlanParts) (bounds : List ℕ) (stage : ℕ) where
 
   -- ---- blocks
 
-  rooms_from : (channels : List Channel)
-      → map blocks.room_of (blocks_in stage (map (link_of plan bounds) channels))
-      ≡ rooms_of (crosses (bound_in bounds) (last_of bounds)) (running_of plan) channels
-  rooms_from [] = refl
-  rooms_from (channel ∷ channels) =
-      room_step (crosses (bound_in bounds) (last_of bounds) channel)
+  blocks_from : (channels : List Channel)
+      → blocks_in stage (map (link_of plan bounds) channels)
+      ≡ blocks_of (crosses (bound_in bounds) (last_of bounds))
+      (is_under_way (bound_in bounds) (last_of bounds) stage) (running_of plan) channels
+  blocks_from [] = refl
+  blocks_from (channel ∷ channels) =
+      block_step (crosses (bound_in bounds) (last_of bounds) channel)
       (round_pushes (running_of plan) channel)
-      (block_before stage (link_of plan bounds channel)).held
+      (is_under_way (bound_in bounds) (last_of bounds) stage channel)
       (blocks_in stage (map (link_of plan bounds) channels))
-      (rooms_of (crosses (bound_in bounds) (last_of bounds)) (running_of plan) channels)
-      (rooms_from channels)
+      (blocks_of (crosses (bound_in bounds) (last_of bounds))
+      (is_under_way (bound_in bounds) (last_of bounds) stage) (running_of plan) channels)
+      (blocks_from channels)
 
-  pub rooms_are : map blocks.room_of (blocks_in stage (links_of plan bounds))
-      ≡ rooms_of (crosses (bound_in bounds) (last_of bounds)) (running_of plan)
-      (transformed_of plan).channels
-  rooms_are = rooms_from (transformed_of plan).channels
+  pub blocks_are : blocks_in stage (links_of plan bounds)
+      ≡ blocks_before (running_of plan) (bound_in bounds) (last_of bounds) stage
+  blocks_are = blocks_from (transformed_of plan).channels
+
+-- the rooms of the blocks of parcels
+module _ (crossing under_way : Channel → Bool) (running : Running) where
+  pub rooms_are : (channels : List Channel)
+      → map blocks.room_of (blocks_of crossing under_way running channels)
+      ≡ rooms_of crossing running channels
+  rooms_are [] = refl
+  rooms_are (channel ∷ channels) =
+      room_step (crossing channel) (round_pushes running channel) (under_way channel)
+      (blocks_of crossing under_way running channels) (rooms_of crossing running channels)
+      (rooms_are channels)
 
 -- ---- tapes
 

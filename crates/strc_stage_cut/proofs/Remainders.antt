@@ -53,6 +53,8 @@ module _ (plan : PlanParts) (bounds : List ℕ) (circuit : CircuitView) (at : Is
           entering_is = state.entering_is;
           leaving_is = state.leaving_is;
           tapes_are = state.tapes_are;
+          blocks_are = state.blocks_are;
+          tape_count_is = state.tape_count_is;
           machine = state.machine;
           machine_is = state.machine_is;
           is_machine = let is = state.is_machine in record {
@@ -69,8 +71,7 @@ module _ (plan : PlanParts) (bounds : List ℕ) (circuit : CircuitView) (at : Is
           };
         };
         fresh = made.fresh;
-        blocks = made.blocks;
-        tapes = made.tapes;
+        no_stop = made.no_stop;
       }
 
   -- one more

@@ -1,5 +1,5 @@
 -- What start-up of a plan comes to.
-use Rattle.std.specs.Prelude.{◌≡◌, ℕ, suc, false, ℤ, List, map}
+use Rattle.std.specs.Prelude.{◌≡◌, ℕ, suc, ℤ, List, map}
 use Rattle.strc_sched_laws.specs.Machine.{CircuitView, MachineView}
 use Rattle.strc_stage_core.specs.States.{Start}
 use Rattle.strc_stage_plan.specs.Bounds.{stage_bounds, stage_count}
@@ -19,13 +19,13 @@ use Rattle.strc_stage_cut.specs.declared.stage_ring.Launch.{Launch}
 use Rattle.strc_stage_cut.specs.declared.stage_ring.Launch.TheVariants as launched
 use Rattle.strc_stage_cut.specs.declared.stage_ring.Ring.{Ring}
 
--- A ring as the definitions see it.
+-- A ring as the definitions see it. All have finished at first where the collector has.
 abbrev pub start_of : Ring → Start StageState Load parcels.Stop.Stop Gathered
 start_of ring = record {
   stages = map see ring.stages.items;
   free = ring.free.items;
   collector = sees ring.collector;
-  done = false;
+  done = (sees ring.collector).finished;
 }
 
 -- The bounds of the stages that so many workers share.

@@ -1,24 +1,21 @@
 -- The stages that are made of the machine after start-up.
-use Rattle.std.specs.Prelude.{◌≡◌, ℕ, false, nat_eq, List, length, Some, slice_get}
-use Rattle.strc_elab_graph.specs.Tapes.{tape_nodes}
+use Rattle.std.specs.Prelude.{◌≡◌, ℕ, nat_eq, List, Some, None, slice_get}
 use Rattle.strc_sched_laws.specs.Machine.{CircuitView, MachineView}
 use Rattle.strc_stage_core.specs.States.{IsFresh}
-use Rattle.strc_stage_plan.specs.Plans.{PlanParts, transformed_of}
+use Rattle.strc_stage_plan.specs.Plans.{PlanParts}
 use Rattle.strc_stage_steps.specs.Beginnings.{IsStageOf}
 use Rattle.strc_stage_steps.specs.Plans.{running_of}
 use Rattle.strc_stage_steps.specs.Stages.{see, state_of}
 use Rattle.strc_stage_steps.specs.declared.stage.StageParts.{StageParts}
 use Rattle.strc_stage_cut.specs.Bounds.{bound_in, last_of}
-use Rattle.strc_stage_cut.specs.Links.{blocks_in, links_of}
 
--- A stage before its first step, which wants of parcels what comes there in a round.
+-- A stage before its first step, which has finished where there are no rounds.
 pub record IsMade (plan : PlanParts) (bounds : List ℕ) (circuit : CircuitView)
     (started : MachineView) (rounds stage : ℕ) (own : StageParts) : Type 0 where
   pub state : IsStageOf (running_of plan) (bound_in bounds) (last_of bounds) circuit started stage
       (state_of own)
-  pub fresh : IsFresh (nat_eq stage 0) rounds false (see own)
-  pub blocks : own.blocks.items ≡ blocks_in stage (links_of plan bounds)
-  pub tapes : own.tape_count ≡ length (tape_nodes (transformed_of plan).nodes)
+  pub fresh : IsFresh (nat_eq stage 0) rounds (nat_eq rounds 0) (see own)
+  pub no_stop : own.stop ≡ None
 
 -- The stages by their numbers.
 abbrev pub AreMade : PlanParts → (bounds : List ℕ) → CircuitView → (started : MachineView)

@@ -1,6 +1,6 @@
 // Start-up of a plan, and the ring of stages that it leaves.
 
-ghost use Rattle.std.specs.Prelude.{◌≡◌, ◌<◌, IfOk};
+ghost use Rattle.std.specs.Prelude.{IfOk};
 ghost use Rattle.strc_stage_cut.specs.Launches.{IsLaunch};
 ghost use Rattle.strc_stage_cut.specs.Stages.{AreStages};
 
@@ -22,7 +22,6 @@ pub(crate) fn launched(
     workers: u32,
 ) -> Result<Launch, NoMemory>
     requires stages { AreStages plan.now workers cut.now }
-    requires rounds { 0 < rounds }
     ensures { IfOk result (IsLaunch plan.now input.now rounds workers) }
 {
     match start_up(alloc, plan, input)? {

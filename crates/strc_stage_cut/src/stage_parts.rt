@@ -103,6 +103,6 @@ fn stage_of(
         taken: 0,
         stop: None,
         broken: false,
-        finished: false,
+        finished: rounds == 0,
     }))
 }

@@ -1,6 +1,6 @@
 // The ring of stages that start-up leaves.
 
-ghost use Rattle.std.specs.Prelude.{◌≡◌, ◌<◌, IfOk, length};
+ghost use Rattle.std.specs.Prelude.{◌≡◌, IfOk, length};
 ghost use Rattle.strc_elab_graph.specs.NodeView.{graph_view};
 ghost use Rattle.strc_sched_laws.specs.Circuits.{IsCircuit};
 ghost use Rattle.strc_sched_rings.specs.Circuits.{circuit_view, IsReady};
@@ -52,7 +52,6 @@ pub(crate) fn ring_of(
     workers: u32,
 ) -> Result<Ring, NoMemory>
     requires stages { AreStages plan.now workers cut.now }
-    requires rounds { 0 < rounds }
     requires circuit { IsCircuit (graph_view plan.now.split.graph) (circuit_view circuit.now) }
     requires ready { IsReady circuit.now }
     requires machine { IsMachine (circuit_view circuit.now) machine }

@@ -69,11 +69,11 @@ pub fn cut(alloc: Global, plan: &Plan, workers: u32) -> Result<Stages, NoMemory>
     })
 }
 
-/// Start-up of a plan on this thread; then its nodes are parted among the stages.
+/// Start-up of a plan on this thread; then its nodes are parted among the stages, which have all
+/// finished where there are no rounds.
 ///
 /// Err only where memory runs out.
 pub fn launch(alloc: Global, stages: Stages, input: &[i32], rounds: u32) -> Result<Launch, NoMemory>
-    requires rounds { 0 < rounds }
     ensures { IfOk result (IsLaunch stages.plan input.now rounds stages.workers) }
 {
     launched(

@@ -24,7 +24,8 @@ use Rattle.strc_stage_cut.specs.Links.{blocks_in, crossings_in}
 use Rattle.strc_stage_cut.specs.Made.{IsMade}
 use Rattle.strc_stage_cut.specs.Tapes.{tapes_in}
 use Rattle.strc_stage_cut.specs.declared.links.Side.TheVariants as side
-use Rattle.strc_stage_cut.proofs.Crossings.{entering_is, leaving_is, tapes_after, tapes_are}
+use Rattle.strc_stage_cut.proofs.Crossings.{blocks_are, entering_is, leaving_is, tapes_after}
+use Rattle.strc_stage_cut.proofs.Crossings.{tapes_are}
 use Rattle.strc_stage_cut.proofs.Parting.{IsParted, bound_read, circuit_of, machine_of}
 use Rattle.strc_stage_cut.proofs.stage_parts.stage_of.Goals as goal
 
@@ -137,6 +138,10 @@ returns-clause-made c =
             (tape_nodes (transformed_of plan).nodes)) is.next_is
             ∙ tapes_are plan (bound_in bounds) (last_of bounds) c.requires.cut.at.cut stage
             c.requires.stage 0 0 (transformed_of plan).nodes (omega arith);
+        blocks_are = c.in_ok-blocks.ensures
+            ∙ ap (blocks_in stage) (c.deref-5.ensures.value ∙ c.requires.cut.links)
+            ∙ blocks_are plan bounds stage;
+        tape_count_is = c.len.ensures ∙ cut.tapes.ok.0 ∙ ap length c.requires.cut.tapes;
         machine = machine_view c.in_ok-part.part;
         machine_is = refl;
         is_machine = machine_of plan bounds _ _ _ _ _ _ _ _ is;
@@ -148,9 +153,7 @@ returns-clause-made c =
         finished_is = refl;
         no_stop = λ going. refl;
       };
-      blocks = c.in_ok-blocks.ensures
-          ∙ ap (blocks_in stage) (c.deref-5.ensures.value ∙ c.requires.cut.links);
-      tapes = c.len.ensures ∙ cut.tapes.ok.0 ∙ ap length c.requires.cut.tapes;
+      no_stop = refl;
     })
 
 pub returns-clause-rest : goal.returns-clause-rest

@@ -43,7 +43,6 @@ returns c =
     let stages_are_made = c.in_ok-stages.ensures in
     let parts : AreParts plan bounds circuit started c.args.rounds stages
     c.in_ok-free.free.items c.in_ok-words.words = record {
-      some = c.requires.rounds;
       each = stages_are_made.each;
       made = stages_are_made.made;
       free_each = c.in_ok-free.ensures.each ∙ ap (λ l. 2 * length l) c.deref.ensures.value;
