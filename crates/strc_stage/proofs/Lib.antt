@@ -4,3 +4,4 @@ pub mod Replaced
 pub mod Renamed
 pub mod Answering
 pub mod Piping
+pub mod StagesFit

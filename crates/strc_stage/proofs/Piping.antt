@@ -1,9 +1,14 @@
 -- What a plan's stages on one thread come to is the answer of the stream equations.
-use Rattle.std.proofs.Common.{◌≡◌, sym, subst, ℕ, ◌<◌, ◌≤◌, ◌^◌, ℤ, List, length, true}
+use Rattle.std.proofs.Common.{◌≡◌, ◌∙◌, refl, ap, sym, subst, ℕ, ◌<◌, ◌≤◌, ◌^◌, ℤ, List, [], ◌∷◌}
+use Rattle.std.proofs.Common.{◌++◌, map, length, Bool, true, false, ◌&&◌}
+use Rattle.std.proofs.Common.{Option, None, slice_get, arith}
 use Rattle.std.proofs.Common.{Result, Ok, Err, IfOk}
-use Rattle.strc_stage_core.specs.Events.{is_over}
+use Rattle.strc_stage_core.specs.Actors.{Stage}
+use Rattle.strc_stage_core.specs.Events.{is_free, is_over}
+use Rattle.strc_stage_core.specs.States.{IsStart, first_core}
 use Rattle.strc_sched_outcome.specs.declared.outcome.Outcome.{Outcome}
 use Rattle.strc_sched_outcome.specs.declared.run_refusal.RunRefusal.{RunRefusal}
+use Rattle.strc_sched_laws.specs.Machine.{CircuitView, MachineView}
 use Rattle.strc_stage_plan.specs.Plans.{PlanParts}
 use Rattle.strc_stage_steps.specs.Plans.{need_of}
 use Rattle.strc_stage_steps.specs.Seeing.{Ring}
@@ -11,14 +16,17 @@ use Rattle.strc_stage_steps.specs.Collectors.{sees}
 use Rattle.strc_stage_steps.specs.declared.collector.CollectorParts.{CollectorParts}
 use Rattle.strc_stage_steps.specs.declared.stage.StageParts.{StageParts}
 use Rattle.strc_stage_core.proofs.Starting.{first_state}
-use Rattle.strc_stage_steps.specs.Steps.{stage_work}
-use Rattle.strc_stage_steps.specs.Pipes.{IsStateOf}
-use Rattle.strc_stage_cut.specs.Launches.{IsLaunch, start_of}
+use Rattle.strc_stage_core.specs.Parcels.{ParcelView}
+use Rattle.strc_stage_core.specs.declared.stop.Stop.{Stop}
+use Rattle.strc_stage_steps.specs.Steps.{StageState, stage_work}
+use Rattle.strc_stage_steps.specs.Pipes.{Beginning, IsStateOf}
+use Rattle.strc_stage_cut.specs.Launches.{IsLaunch, IsRingOf, start_of}
 use Rattle.strc_stage_cut.specs.Startups.{HasFaulted}
+use Rattle.strc_stage_cut.specs.declared.stage_ring as launching
 use Rattle.strc_stage_cut.specs.declared.stage_ring.Launch.{Launch}
 use Rattle.strc_stage_cut.specs.declared.stage_ring.Launch.TheVariants as launched
 use Rattle.strc_stage.specs.Answers.{AnswersPlan}
-use Rattle.strc_stage.specs.Piped.{HasGoneOn, IsPipe, StateOf, core_seen}
+use Rattle.strc_stage.specs.Piped.{HasEnded, HasGoneOn, IsFirstOf, IsPipe, StateOf, core_seen}
 use Rattle.strc_stage.specs.Running.{EndsSo}
 use Rattle.strc_stage.specs.declared.pipe.State.{State}
 use Rattle.strc_stage.specs.declared.pipe.State.TheVariants as states
@@ -61,3 +69,48 @@ launched_pipe plan input rounds workers (launched.Going first) (states.Faulted a
     same = absurd same
 launched_pipe plan input rounds workers (launched.Faulted node firing cause) (states.Going ring)
     faulted same = absurd same
+
+-- The first core of a start whose collector has finished is over.
+abbrev empty_hands : List (Stage StageState Stop) → List (Option ParcelView)
+empty_hands stages = map (λ (stage : Stage StageState Stop). None) stages ++ (None ∷ [])
+
+hand_free : (stages : List (Stage StageState Stop))
+    → is_free (slice_get (empty_hands stages) (length stages)) ≡ true
+hand_free [] = refl
+hand_free (stage ∷ stages) = hand_free stages
+
+first_over : (start : Beginning) → start.collector.finished ≡ true
+    → is_over (first_core start) ≡ true
+unfolding is_over first_core
+first_over start finished =
+    ap (λ (b : Bool). b && is_free (slice_get (first_core start).hands (length start.stages)))
+    finished
+    ∙ hand_free start.stages
+
+-- Where there are no rounds nothing is left to happen.
+ended_ring : (plan : PlanParts) (circuit : CircuitView) (started : MachineView) (rounds workers : ℕ)
+    (first : launching.Ring.Ring) (ring : Ring StageParts CollectorParts) → rounds ≡ 0
+    → IsRingOf plan circuit started rounds workers first → IsFirstOf first ring
+    → is_over (core_seen ring) ≡ true
+ended_ring plan circuit started rounds workers first ring none is same =
+    let beginning = is.beginning in
+    ap is_over same
+    ∙ first_over (start_of first) (by_done (start_of first).done refl beginning.is_start
+    (beginning.rounds_are ∙ none))
+  where
+    by_done : (done : Bool) → (start_of first).done ≡ done → IsStart (start_of first)
+        → (start_of first).collector.rounds ≡ 0 → (start_of first).collector.finished ≡ true
+    by_done true done start no_rounds = start.finished_is ∙ done
+    by_done false done start no_rounds = absurd (omega (arith, start.goes done, no_rounds))
+
+pub ended_at_once : (plan : PlanParts) (input : List ℤ) (rounds workers : ℕ) (launch : Launch)
+    (state : State) → rounds ≡ 0 → IsLaunch plan input rounds workers launch
+    → StateOf launch state → HasEnded state
+ended_at_once plan input rounds workers (launched.Going first) (states.Going ring) none begun same =
+    ended_ring plan begun.circuit begun.started rounds workers first ring none begun.ring_is same
+ended_at_once plan input rounds workers (launched.Faulted node firing cause)
+    (states.Faulted at number why) none faulted same = tt
+ended_at_once plan input rounds workers (launched.Going first) (states.Faulted at number why) none
+    begun same = absurd same
+ended_at_once plan input rounds workers (launched.Faulted node firing cause) (states.Going ring)
+    none faulted same = absurd same

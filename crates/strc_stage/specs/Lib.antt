@@ -4,3 +4,4 @@ pub mod Naming
 pub mod Alone
 pub mod Running
 pub mod Piped
+pub mod Laws

@@ -7,13 +7,14 @@ use Rattle.strc_stage_core.specs.States.{first_core}
 use Rattle.strc_stage_plan.specs.Plans.{PlanParts}
 use Rattle.strc_stage_steps.specs.Steps.{stage_work}
 use Rattle.strc_stage_steps.specs.Pipes.{PipeView, IsStateOf}
-use Rattle.strc_stage_steps.specs.Seeing.{Ring, core_of}
+use Rattle.strc_stage_steps.specs.Seeing.{Ring, core_of, ring_of}
 use Rattle.strc_stage_steps.specs.Collectors.{sees}
 use Rattle.strc_stage_steps.specs.Stages.{see}
 use Rattle.strc_stage_steps.specs.declared.collector.CollectorParts.{CollectorParts}
+use Rattle.strc_stage_steps.specs.declared.parts.Parts.{Parts}
 use Rattle.strc_stage_steps.specs.declared.stage.StageParts.{StageParts}
 use Rattle.strc_stage_cut.specs.Launches.{HasBegun, IsLaunch, start_of}
-use Rattle.strc_stage_cut.specs.Startups.{HasFaulted}
+use Rattle.strc_stage_cut.specs.Startups as startup
 use Rattle.strc_stage_cut.specs.declared.stage_ring as launching
 use Rattle.strc_stage_cut.specs.declared.stage_ring.Launch.{Launch}
 use Rattle.strc_stage_cut.specs.declared.stage_ring.Launch.TheVariants as launched
@@ -36,12 +37,22 @@ pub record HasGoneOn (plan : PlanParts) (input : List ℤ) (rounds : ℕ)
 abbrev pub IsPipe : PlanParts → (input : List ℤ) → (rounds : ℕ) → State → Type 0
 IsPipe plan input rounds (state.Going ring) = HasGoneOn plan input rounds ring
 IsPipe plan input rounds (state.Faulted node firing cause) =
-    HasFaulted plan input node firing cause
+    startup.HasFaulted plan input node firing cause
 
 -- Nothing is left to happen: the collector has ended, or start-up faulted.
 abbrev pub HasEnded : State → Type 0
 HasEnded (state.Going ring) = is_over (core_seen ring) ≡ true
 HasEnded (state.Faulted node firing cause) = Unit {0}
+
+-- Start-up faulted.
+abbrev pub HasFaulted : State → Type 0
+HasFaulted (state.Going ring) = ⊥
+HasFaulted (state.Faulted node firing cause) = Unit {0}
+
+-- Parts are those of a pipe's ring.
+abbrev pub IsRingOf : Parts StageParts CollectorParts → State → Type 0
+IsRingOf parts (state.Going ring) = ring ≡ ring_of parts
+IsRingOf parts (state.Faulted node firing cause) = ⊥
 
 -- Which events are allowed; none after a fault of start-up.
 abbrev pub may_happen : State → Event → Bool

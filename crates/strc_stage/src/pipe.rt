@@ -8,11 +8,13 @@ ghost use Rattle.strc_stage_core.specs.States.{IsStart};
 ghost use Rattle.strc_stage_steps.specs.Plans.{need_of};
 ghost use Rattle.strc_stage_steps.specs.Collectors.{sees};
 ghost use Rattle.strc_stage_steps.specs.Stages.{see};
-ghost use Rattle.strc_stage_steps.specs.Seeing as pipes;
+ghost use Rattle.strc_stage_steps.specs.Pipes.{IsSomeState};
+ghost use Rattle.strc_stage_steps.specs.Seeing.{core_of_parts};
 ghost use Rattle.strc_stage_cut.specs.Launches.{IsLaunch, start_of};
 ghost use Rattle.strc_stage.specs.Answers.{AnswersPlan};
 ghost use Rattle.strc_stage.specs.Running.{EndsSo, IsBegun};
-ghost use Rattle.strc_stage.specs.Piped.{HasEnded, IsPipe, Happens, IsFirstOf, IsFirstState};
+ghost use Rattle.strc_stage.specs.Piped.{HasEnded, HasFaulted, IsPipe, Happens, IsFirstOf};
+ghost use Rattle.strc_stage.specs.Piped.{IsFirstState, IsRingOf};
 ghost use Rattle.strc_stage.specs.Piped.{StateOf, may_happen};
 
 use crate::collector_outcome::{faulted, outcome_of};
@@ -22,7 +24,7 @@ use strc_sched_outcome::outcome::Outcome;
 use strc_sched_outcome::run_refusal::RunRefusal;
 use strc_stage_cut::{Launch, Ring, Stages, launch};
 use strc_stage_plan::plan::Plan;
-use strc_stage_steps::{Collector, Event, Stage};
+use strc_stage_steps::{Collector, Event, Parts, Stage};
 use strc_work_meaning::fault::Cause;
 
 /// The stages of a plan after start-up, in whatever state events have led to.
@@ -30,6 +32,13 @@ use strc_work_meaning::fault::Cause;
 pub struct Pipe {
     plan: Plan,
     state: State,
+}
+
+/// What a pipe is made of, where start-up didn't fault.
+#[derive(Drop)]
+pub struct PipeParts {
+    pub plan: Plan,
+    pub ring: Parts<Stage, Collector>,
 }
 
 /// A ring of stages, or the fault of start-up.
@@ -44,16 +53,18 @@ pub enum State {
 }
 
 impl Pipe {
-    /// Start-up of stages, which this thread runs, and the ring that it leaves, before any event.
+    /// Start-up of stages, which this thread runs, and the ring that it leaves, before any event. For
+    /// no rounds, or after a fault of start-up, nothing is left to happen, and `finish` tells the
+    /// outcome.
     ///
-    /// Err only where memory runs out. Of no rounds there is nothing to hand on.
+    /// Err only where memory runs out.
     pub fn new(alloc: Global, stages: Stages, input: &[i32], rounds: u32) -> Result<Pipe, NoMemory>
-        requires rounds { 0 < rounds }
         ensures plan { IfOk result (λ pipe. pipe.plan ≡ stages.plan) }
         ensures first { IfOk result (λ pipe. IsFirstState stages.plan input.now rounds
             stages.workers pipe.state) }
         ensures state { IfOk result (λ pipe. IsPipe stages.plan input.now rounds
             pipe.state) }
+        ensures ended { IfOk result (λ pipe. rounds ≡ 0 → HasEnded pipe.state) }
     {
         let plan = stages.plan().copy()?;
         let launched = launch(alloc, stages, input, rounds)?;
@@ -109,6 +120,49 @@ impl Pipe {
                 cause,
             } => Ok(faulted(alloc, plan.graph().nodes(), node, firing, cause)),
         }
+    }
+
+    /// Its plan, and the parts of its ring as they are; after a fault of start-up the pipe as it is.
+    pub fn parts(self) -> Result<PipeParts, Pipe>
+        ensures plan { IfOk result (λ parts. parts.plan ≡ self.plan) }
+        ensures parts { IfOk result (λ parts. IsRingOf parts.ring self.state) }
+        ensures state { IfOk result (λ parts. IsSomeState (core_of_parts see sees parts.ring)) }
+        ensures faulted { IfErr result (λ pipe. (pipe ≡ self) × HasFaulted self.state) }
+    {
+        let Pipe { plan, state } = self;
+        match state {
+            State::Going(ring) => Ok(PipeParts {
+                plan,
+                ring: ring.parts(),
+            }),
+            State::Faulted {
+                node,
+                firing,
+                cause,
+            } => Err(Pipe {
+                plan,
+                state: State::Faulted {
+                    node,
+                    firing,
+                    cause,
+                },
+            }),
+        }
+    }
+
+    /// A pipe of a plan and of parts in a state, with room on its links for all parcels.
+    ///
+    /// Err only where memory runs out.
+    pub fn join(parts: PipeParts) -> Result<Pipe, NoMemory>
+        requires state { IsSomeState (core_of_parts see sees parts.ring) }
+        ensures plan { IfOk result (λ pipe. pipe.plan ≡ parts.plan) }
+        ensures ring { IfOk result (λ pipe. IsRingOf parts.ring pipe.state) }
+    {
+        let PipeParts { plan, ring } = parts;
+        Ok(Pipe {
+            plan,
+            state: State::Going(strc_stage_steps::Pipe::join(ring)?),
+        })
     }
 
     /// The ring of stages, or the fault of start-up, taken out.
