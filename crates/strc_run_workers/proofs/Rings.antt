@@ -1,5 +1,5 @@
 -- A ring that has begun is run to an end of its start.
-use Rattle.std.proofs.Common.{◌≡◌, sym, ap, subst, Bool, map, IfOk, IfErr, Ok, Err}
+use Rattle.std.proofs.Common.{◌≡◌, sym, ap, subst, ℕ, ℤ, Bool, List, map, IfOk, IfErr, Ok, Err}
 use Rattle.std.proofs.Common.{Result}
 use Rattle.strc_sched_outcome.specs.declared.outcome.Outcome.{Outcome}
 use Rattle.strc_sched_outcome.specs.declared.run_refusal.RunRefusal.{RunRefusal}
@@ -20,9 +20,11 @@ use Rattle.strc_stage_steps.specs.Collectors.{sees, total_of}
 use Rattle.strc_stage_steps.specs.Stages.{see}
 use Rattle.strc_stage_steps.specs.declared.collector.CollectorParts.{CollectorParts}
 use Rattle.strc_stage_steps.specs.declared.stage.StageParts.{StageParts}
-use Rattle.strc_stage_cut.specs.Launches.{start_of}
+use Rattle.strc_stage_cut.specs.Launches.{IsLaunch, start_of}
+use Rattle.strc_stage_cut.specs.declared.stage_ring.Launch.{Launch}
+use Rattle.strc_stage_cut.specs.declared.stage_ring.Launch.TheVariants as launched
 use Rattle.strc_stage_cut.specs.declared.stage_ring.Ring.{Ring}
-use Rattle.strc_stage.specs.Running.{EndsSo, HasEnded, LacksMeans}
+use Rattle.strc_stage.specs.Running.{EndsSo, HasEnded, LacksAfter, LacksMeans}
 use Rattle.strc_run_workers.specs.Leftovers.{Drives}
 
 -- A ring's start, by whether its actors are done.
@@ -52,10 +54,30 @@ module _ (plan : PlanParts) (ring : Ring) (parts : CollectorParts) where
   told_ends drives (Err refusal) ends = tt
 
 -- Where only memory may lack, means may.
-pub only_memory : (result : Result Outcome RunRefusal)
-    → IfErr result (λ refusal. refusal ≡ refused.NoMemory) → IfErr result LacksMeans
-only_memory (Ok outcome) is = tt
-only_memory (Err refusal) is = subst LacksMeans (sym is) tt
+pub only_memory : (launch : Launch) (result : Result Outcome RunRefusal)
+    → IfErr result (λ refusal. refusal ≡ refused.NoMemory) → IfErr result (LacksAfter launch)
+only_memory launch (Ok outcome) is = tt
+only_memory (launched.Going ring) (Err refusal) is =
+    subst (LacksAfter (launched.Going ring)) (sym is) tt
+only_memory (launched.Faulted node firing cause) (Err refusal) is =
+    subst (LacksAfter (launched.Faulted node firing cause)) (sym is) tt
+
+-- What lacks after a launch of a plan lacks to the plan.
+pub lacks_so : (plan : PlanParts) (input : List ℤ) (rounds workers : ℕ) (launch : Launch)
+    → IsLaunch plan input rounds workers launch → (result : Result Outcome RunRefusal)
+    → IfErr result (LacksAfter launch) → IfErr result (LacksMeans plan input)
+lacks_so plan input rounds workers launch is (Ok outcome) lacks = tt
+lacks_so plan input rounds workers launch is (Err refusal) lacks = by_case launch refusal is lacks
+  where
+    by_case : (launch : Launch) (refusal : RunRefusal) → IsLaunch plan input rounds workers launch
+        → LacksAfter launch refusal → LacksMeans plan input refusal
+    by_case launch refused.NoMemory is lacks = tt
+    by_case (launched.Going ring) refused.NoWorker is lacks =
+        (is.circuit, is.started, is.startup)
+    by_case (launched.Faulted node firing cause) refused.NoWorker is lacks = absurd lacks
+    by_case launch (refused.InputShort need got) is lacks = absurd lacks
+    by_case launch refused.RoundsNeeded is lacks = absurd lacks
+    by_case launch refused.BadWorkers is lacks = absurd lacks
 
 -- What a ring's workers begin with.
 abbrev pub seat_of : Ring → Start StageParts CollectorParts

@@ -7,7 +7,8 @@ ghost use Rattle.strc_stage.specs.Answers.{AnswersPlan};
 ghost use Rattle.strc_stage_cut.specs.Launches.{IsLaunch, start_of};
 ghost use Rattle.strc_stage.specs.Running.{HasEnded, IsBegun, IsEndOf};
 ghost use Rattle.strc_run_workers.specs.Leftovers.{Drives};
-ghost use Rattle.strc_stage.specs.Running.{LacksMeans};
+ghost use Rattle.strc_stage.specs.Running.{LacksAfter, LacksMeans};
+ghost use Rattle.strc_stage_cut.specs.declared.stage_ring.Launch.TheVariants as launched;
 
 use crate::leftover_ring::driven;
 use std::alloc::Global;
@@ -30,7 +31,7 @@ use strc_stage_steps::{Collector, Stage};
 ///
 /// For whatever stream the plan's graph is the flat graph of, the outcome is the answer of the
 /// stream equations at the schedule's counts, as that of one worker is. `NoMemory` comes where
-/// memory runs out, `NoWorker` where a thread is refused.
+/// memory runs out, `NoWorker` where a thread is refused, which is after start-up.
 pub fn run_stages<G: Gate<Stage>, R: Threads + Wait + Sync>(
     rt: &R,
     alloc: Global,
@@ -45,7 +46,7 @@ pub fn run_stages<G: Gate<Stage>, R: Threads + Wait + Sync>(
     requires nodes { 0 < length plan.now.graph.nodes }
     requires enough { need_of plan.now rounds ≤ length input.now }
     ensures answer { IfOk result (AnswersPlan plan.now input.now rounds) }
-    ensures means { IfErr result LacksMeans }
+    ensures means { IfErr result (LacksMeans plan.now input.now) }
 {
     plan.known();
     match begin(alloc, plan, input, rounds, workers) {
@@ -81,7 +82,7 @@ fn run_launched<G: Gate<Stage>, R: Threads + Wait + Sync>(
 ) -> Result<Outcome, RunRefusal>
     requires start { IsBegun launched }
     ensures ended { IfOk result (IsEndOf plan.now launched) }
-    ensures means { IfErr result LacksMeans }
+    ensures means { IfErr result (LacksAfter launched) }
 {
     match launched {
         Launch::Going(ring) => run_rounds(rt, alloc, plan, ring, gate),
@@ -103,7 +104,7 @@ fn run_rounds<G: Gate<Stage>, R: Threads + Wait + Sync>(
 ) -> Result<Outcome, RunRefusal>
     requires start { IsStart (start_of ring) }
     ensures ended { IfOk result (HasEnded plan.now (start_of ring)) }
-    ensures means { IfErr result LacksMeans }
+    ensures means { IfErr result (LacksAfter (launched.Going ring)) }
 {
     match collected(rt, alloc, ring, gate) {
         Ok(collector) => outcome_of(alloc, plan, collector.into_parts()),
