@@ -1,6 +1,7 @@
 // From a text to the outcome of its run by several workers.
 
-use crate::programs::{FAULTS, SUMS_OF_SUMS, plan_of, text_of, values_of};
+use crate::programs::{FAULTS, SUMS_OF_SUMS, plan_of, values_of};
+use crate::stages::ring_of;
 use std::alloc::Global;
 use std::sync::atomic::{AtomicU32, Ordering};
 use std::test::Fail;
@@ -8,7 +9,7 @@ use strc_run::compile::compile;
 use strc_run::options::Options;
 use strc_run::refusal::Refusal;
 use strc_run::run::{Outcome, Round, RunRefusal, run};
-use strc_run::{Gate, OpenGate, Rx, Tx, close, link};
+use strc_run::{Gate, OpenGate, Rx, Tx, Worked, close, link, work};
 use strc_stage::{Actor, Parcel, Stage};
 use strc_work::fault::Cause;
 
@@ -100,5 +101,26 @@ fn links_hand_parcels_on(rt: HostRuntime) -> Result<(), Fail> {
     assert!(rt; rx.take(&rt).is_some());
     let left: Vec<Parcel> = close(&rt, alloc, tx, rx).ok().ok_or("no memory")?;
     assert_eq!(rt; left.len(), 1);
+    Ok(())
+}
+
+/// A worker's body ends where nothing comes any more: what came first was stepped on and given.
+#[test]
+fn a_worker_steps_until_its_giver_is_gone(rt: HostRuntime) -> Result<(), Fail> {
+    let alloc = rt.alloc();
+    let plan = plan_of(alloc, FAULTS, 1, 0)?;
+    let pipe = ring_of(alloc, &plan, &[1, 1, 1], 3)?;
+    let mut stages = pipe.parts().ok().ok_or("start-up faults")?.ring.stages;
+    if stages.is_empty() {
+        return Err("no stage".into());
+    }
+    let stage = stages.swap_remove(0);
+    let (mut giver, rx) = link(alloc, 6).ok().ok_or("no memory for a link")?;
+    let (tx, mut taker) = link(alloc, 6).ok().ok_or("no memory for a link")?;
+    assert!(rt; giver.give(&rt, stage.parcel(alloc)).is_ok());
+    drop(giver);
+    let worked: Worked<Stage> = work(&rt, alloc, stage, rx, tx, 0, &OpenGate);
+    assert!(rt; worked.held.is_none() && !worked.misfit);
+    assert!(rt; taker.take(&rt).is_some());
     Ok(())
 }
