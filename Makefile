@@ -14,7 +14,7 @@ prove: ## proves the compiler and keeps the proved program (30 to 45 minutes)
 
 gate: ## proves and tests everything, and the documents (some 260 processor minutes)
 	@scripts/documents --check; documents=$$?; scripts/unused; unused=$$?; \
-	rt ci && exit $$((documents + unused))
+	rt ci && ./strc --keep && scripts/refuse-memory --cases && exit $$((documents + unused))
 
 test: build ## the examples, and what a shell can do to a run
 	scripts/examples
@@ -41,9 +41,14 @@ docs: ## writes what scripts write of the documents, the manual page and editors
 	scripts/documents
 	scripts/editor-files
 
-install: build ## installs the kept program and its manual page below PREFIX
+install: build ## installs the kept program, its manual page and the editors' files below PREFIX
 	./strc --which
 	install -D build/strc $(DESTDIR)$(PREFIX)/bin/strc
 	install -D -m 644 docs/strc.1 $(DESTDIR)$(PREFIX)/share/man/man1/strc.1
+	install -D -m 644 editors/streamit.tmLanguage.json \
+		$(DESTDIR)$(PREFIX)/share/strc/streamit.tmLanguage.json
+	cd editors/vim && for file in */*.vim; do \
+		install -D -m 644 $$file $(DESTDIR)$(PREFIX)/share/vim/vimfiles/$$file || exit; \
+	done
 
 .PHONY: help build prove gate test bench soak wrong-bodies pictures docs install
