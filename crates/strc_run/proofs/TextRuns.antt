@@ -41,7 +41,7 @@ module _ (text : List ℕ) (choice : Choice) (plan : PlanParts)
     enough = enough;
   }
 
-  unrun_text : (refusal : RunRefusal) → IsUnrun plan (length input) asked workers refusal
+  unrun_text : (refusal : RunRefusal) → IsUnrun plan input asked workers refusal
       → IsTextRun text choice plan input asked workers (Err refusal)
   unrun_text refused.BadWorkers bad = (is.accepted, bad)
   unrun_text (refused.InputShort need got) (are, bounded, (needed, had, short)) = (
@@ -56,8 +56,10 @@ module _ (text : List ℕ) (choice : Choice) (plan : PlanParts)
     },
   )
   unrun_text refused.NoMemory (are, bounded, enough) = (are, has_input bounded enough)
-  unrun_text refused.NoWorker (are, bounded, (many, enough)) =
-      (are, (many, has_input bounded enough))
+  unrun_text refused.NoWorker (are, bounded, starts) = (
+    are,
+    record { accepted = is.accepted; bounded = sym same_bound ∙ bounded; starts = starts },
+  )
   unrun_text refused.RoundsNeeded (are, unbounded) = (
     are,
     record { accepted = is.accepted; unbounded = sym same_bound ∙ unbounded },

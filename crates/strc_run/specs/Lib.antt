@@ -10,3 +10,4 @@ pub mod Rounds
 pub mod Streams
 pub mod TextRuns
 pub mod Verdicts
+pub mod Limits

@@ -5,17 +5,17 @@ use Rattle.std.specs.Prelude.{Some, None, unwrap_or, Result, Ok, Err}
 use Rattle.std.specs.List.{list_any}
 use Rattle.strc_elab_graph.specs.Graphs.{NodeCode, reads_input}
 use Rattle.strc_stage.specs.Answers.{AnswersPlan}
+use Rattle.strc_stage.specs.Running.{StartsUp}
 use Rattle.strc_sched.specs.Serving.{Serves}
 use Rattle.strc_sched_outcome.specs.declared.outcome.Outcome.{Outcome}
 use Rattle.strc_sched_outcome.specs.declared.run_refusal.RunRefusal.{RunRefusal}
 use Rattle.strc_sched_outcome.specs.declared.run_refusal.RunRefusal.TheVariants as refused
 use Rattle.strc_stage_plan.specs.Plans.{PlanParts, graph_of}
 use Rattle.strc_stage_steps.specs.Plans.{need_of}
-use Rattle.strc_run.specs.declared.run.TheConstants.{WORKER_LIMIT}
 
 -- rounds can be run by so many workers
 abbrev pub AreWorkers : ℕ → Type 0
-AreWorkers workers = (1 ≤ workers) × (workers ≤ WORKER_LIMIT)
+AreWorkers workers = (1 ≤ workers) × (workers ≤ 64)
 
 -- whether a node of a plan's graph reads the program's input
 abbrev pub plan_reads : PlanParts → Bool
@@ -43,26 +43,40 @@ pub record RunsRounds (plan : PlanParts) (input : List ℤ) (asked : Option ℕ)
   pub enough : need_of plan rounds ≤ length input
   pub answer : AnswersPlan plan input rounds outcome
 
--- rounds that read so many items aren't run over an input by so many workers: it is shorter, and
+-- a worker of several is started only where there is some round to run, after start-up
+pub record StartsWorkers (plan : PlanParts) (input : List ℤ) (asked : Option ℕ) (workers : ℕ)
+    : Type 0 where
+  pub several : 1 < workers
+  pub rounds : ℕ
+  pub count : IsCount (need_of plan) (length input) asked rounds
+  pub some_round : 0 < rounds
+  pub enough : need_of plan rounds ≤ length input
+  pub started : StartsUp plan input
+
+-- so many rounds aren't run over an input by so many workers: it is shorter than what they read, and
 -- only then; or memory runs out, or a worker of several can't be started
-abbrev pub IsWorkedRefusal : (need got workers : ℕ) → RunRefusal → Type 0
-IsWorkedRefusal need got workers (refused.InputShort needed had) =
-    (needed ≡ need) × (had ≡ got) × (got < need)
-IsWorkedRefusal need got workers refused.NoMemory = need ≤ got
-IsWorkedRefusal need got workers refused.NoWorker = (1 < workers) × (need ≤ got)
-IsWorkedRefusal need got workers _ = ⊥
+abbrev pub IsWorkedRefusal : PlanParts → List ℤ → (rounds workers : ℕ) → RunRefusal → Type 0
+IsWorkedRefusal plan input rounds workers (refused.InputShort need got) =
+    (need ≡ need_of plan rounds) × (got ≡ length input) × (length input < need_of plan rounds)
+IsWorkedRefusal plan input rounds workers refused.NoMemory = need_of plan rounds ≤ length input
+IsWorkedRefusal plan input rounds workers refused.NoWorker =
+    StartsWorkers plan input (Some rounds) workers
+IsWorkedRefusal plan input rounds workers _ = ⊥
 
 -- or they aren't run: there are too few or too many workers; else nobody says how many rounds where
 -- a number is needed; else the input is shorter than what they read, or than what start-up reads,
 -- where it is to say how many; or memory runs out, or a worker of several can't be started
-abbrev pub IsUnrun : PlanParts → (got : ℕ) → (asked : Option ℕ) → (workers : ℕ) → RunRefusal
+abbrev pub IsUnrun : PlanParts → List ℤ → (asked : Option ℕ) → (workers : ℕ) → RunRefusal
     → Type 0
-IsUnrun plan got asked workers refused.BadWorkers = ¬ AreWorkers workers
-IsUnrun plan got asked workers refused.RoundsNeeded =
+IsUnrun plan input asked workers refused.BadWorkers = ¬ AreWorkers workers
+IsUnrun plan input asked workers refused.RoundsNeeded =
     AreWorkers workers × (is_bounded asked (graph_of plan).nodes ≡ false)
-IsUnrun plan got asked workers refusal =
+IsUnrun plan input asked workers refused.NoWorker =
     AreWorkers workers × (is_bounded asked (graph_of plan).nodes ≡ true)
-    × IsWorkedRefusal (need_of plan (unwrap_or asked 0)) got workers refusal
+    × StartsWorkers plan input asked workers
+IsUnrun plan input asked workers refusal =
+    AreWorkers workers × (is_bounded asked (graph_of plan).nodes ≡ true)
+    × IsWorkedRefusal plan input (unwrap_or asked 0) workers refusal
 
 -- how the rounds of a plan are answered: the outcome is the same for each number of workers
 abbrev pub IsRunOf : PlanParts → List ℤ → (asked : Option ℕ) → (workers : ℕ)
@@ -70,4 +84,4 @@ abbrev pub IsRunOf : PlanParts → List ℤ → (asked : Option ℕ) → (worker
 IsRunOf plan input asked workers (Ok outcome) =
     AreWorkers workers × RunsRounds plan input asked outcome
 IsRunOf plan input asked workers (Err refusal) =
-    IsUnrun plan (length input) asked workers refusal
+    IsUnrun plan input asked workers refusal

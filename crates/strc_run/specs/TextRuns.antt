@@ -13,7 +13,7 @@ use Rattle.strc_stage_plan.specs.Plans.{PlanParts}
 use Rattle.strc_stage_steps.specs.Plans.{need_of}
 use Rattle.strc_run.specs.Accepts.{Accepts}
 use Rattle.strc_run.specs.Choices.{Choice}
-use Rattle.strc_run.specs.Rounds.{AreWorkers, IsCount, is_bounded}
+use Rattle.strc_run.specs.Rounds.{AreWorkers, IsCount, StartsWorkers, is_bounded}
 
 -- whether a stream has a reader of the program's input
 abbrev pub has_reader : Stream → Bool
@@ -52,6 +52,13 @@ pub record HasInput (text : List ℕ) (choice : Choice) (plan : PlanParts) (inpu
   pub bounded : is_bounded asked (nodes_of accepted.stream) ≡ true
   pub enough : need_of plan (unwrap_or asked 0) ≤ length input
 
+-- the text is accepted, and a worker of several is started
+pub record StartsTextWorkers (text : List ℕ) (choice : Choice) (plan : PlanParts) (input : List ℤ)
+    (asked : Option ℕ) (workers : ℕ) : Type 0 where
+  pub accepted : Accepts text choice plan
+  pub bounded : is_bounded asked (nodes_of accepted.stream) ≡ true
+  pub starts : StartsWorkers plan input asked workers
+
 -- why the rounds of an accepted text aren't run by so many workers, which can run rounds: the input
 -- is too short, nobody says how many there are, or they could be run, and memory runs out or a
 -- worker of several can't be started
@@ -64,7 +71,7 @@ IsTextUnrun text choice plan input asked workers refused.RoundsNeeded =
 IsTextUnrun text choice plan input asked workers refused.NoMemory =
     HasInput text choice plan input asked
 IsTextUnrun text choice plan input asked workers refused.NoWorker =
-    (1 < workers) × HasInput text choice plan input asked
+    StartsTextWorkers text choice plan input asked workers
 IsTextUnrun text choice plan input asked workers refused.BadWorkers = ⊥
 
 -- how the rounds of an accepted text are answered by so many workers: with their outcome, which is

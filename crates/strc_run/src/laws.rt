@@ -1,6 +1,7 @@
 // What the meaning of a text stands on, as laws about all texts.
 
 ghost use Rattle.strc_run.specs.Laws.{AcceptedOrRefused, OneStream, PlansAnswerTexts};
+ghost use Rattle.strc_run.specs.Limits.{LimitsAre};
 
 use strc_elab_stream::laws::one_flat_graph;
 use strc_parse::laws::{one_program, spelled_texts_are_readable};
@@ -30,4 +31,9 @@ pub fn one_stream()
 /// equations of the text's main stream, or why there is none.
 pub fn plans_answer_texts()
     ensures { PlansAnswerTexts }
+{}
+
+/// The limits that definitions cite are these numbers.
+pub fn limits_are()
+    ensures { LimitsAre }
 {}

@@ -32,7 +32,8 @@ pub const WORKER_LIMIT: u32 = 64;
 /// `BadWorkers` comes where the number of workers isn't one from 1 to 64; then `RoundsNeeded` where
 /// no number of rounds is given and the graph has no reader; then `InputShort` where the input has
 /// fewer items than these rounds read, or than start-up reads where no number is given; `NoMemory`
-/// where memory runs out, and `NoWorker` where a thread is refused.
+/// where memory runs out, and `NoWorker` where a thread is refused; threads are started after start-up,
+/// and only for some round.
 pub fn run<G: Gate<Stage>, R: Threads + Wait + Sync>(
     rt: &R,
     alloc: Global,
@@ -86,8 +87,7 @@ fn run_rounds<G: Gate<Stage>, R: Threads + Wait + Sync>(
     requires workers { AreWorkers workers }
     ensures answer { IfOk result (AnswersPlan plan.now input.now rounds) }
     ensures enough { IfOk result (λ _. need_of plan.now rounds ≤ length input.now) }
-    ensures refused { IfErr result (IsWorkedRefusal (need_of plan.now rounds)
-        (length input.now) workers) }
+    ensures refused { IfErr result (IsWorkedRefusal plan.now input.now rounds workers) }
 {
     let graph = plan.graph();
     let need = input_needed(graph, plan.schedule(), rounds);
