@@ -15,6 +15,8 @@ idle_state = record {
   entering = [];
   leaving = [];
   tapes = [];
+  blocks = [];
+  tape_count = 0;
   machine = None;
 }
 
