@@ -1,9 +1,10 @@
 // How many events a ring has until it is over, and where its parcels are then.
 
-use crate::outcome_text::told_collector;
+use crate::outcome_text::{told, told_collector};
 use crate::programs::{PROGRAMS, case_of};
 use crate::rings::begin;
 use std::test::Fail;
+use strc_sched::plain::run_plain;
 use strc_stage::pipe::State;
 use strc_stage_steps::Event;
 
@@ -40,5 +41,32 @@ fn three_rounds_are_twenty_four_events(rt: HostRuntime) -> Result<(), Fail> {
     }
     let told = told_collector(alloc, &parts.collector.into_parts())?;
     assert_eq!(rt; told.as_str(), case.wanted);
+    Ok(())
+}
+
+/// The outcome is that of start-up, and no event is allowed.
+#[test]
+fn no_rounds_end_at_once(rt: HostRuntime) -> Result<(), Fail> {
+    let alloc = rt.alloc();
+    for row in PROGRAMS {
+        let mut case = case_of(alloc, row)?;
+        case.rounds = 0;
+        let plan = &case.plan;
+        let outcome = run_plain(alloc, plan.graph(), plan.schedule(), &case.input, 0)?;
+        let mut pipe = begin(alloc, &case, 3)?;
+        for actor in 0..5 {
+            assert!(rt; !pipe.event(alloc, Event::Take(actor)));
+            assert!(rt; !pipe.event(alloc, Event::Give(actor)));
+        }
+        match pipe.finish(alloc) {
+            Ok(Ok(found)) => assert_eq!(rt;
+                told(alloc, &found)?.as_str(),
+                told(alloc, &outcome)?.as_str(),
+                "{}",
+                case.name
+            ),
+            _ => return Err("no outcome".into()),
+        }
+    }
     Ok(())
 }

@@ -10,7 +10,7 @@ use strc_stage_steps::Event;
 
 /// A case after start-up, cut into stages for so many workers.
 pub fn begin(alloc: Global, case: &Case<'_>, workers: u32) -> Result<Pipe, Fail> {
-    if case.plan.graph().nodes().is_empty() || case.rounds == 0 || workers == 0 {
+    if case.plan.graph().nodes().is_empty() || workers == 0 {
         return Err("nothing to begin with".into());
     }
     let stages = cut(alloc, &case.plan, workers)?;
