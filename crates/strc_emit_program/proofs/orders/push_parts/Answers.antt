@@ -1,0 +1,8 @@
+use Rattle.strc_emit_program.specs.Orders.{part_text}
+use Rattle.strc_emit_text.proofs.Pushing.{one_more_below}
+use Rattle.strc_emit_program.proofs.orders.push_parts.Goals as goal
+
+pub loop-part-preserved : goal.loop-part-preserved
+loop-part-preserved c =
+    one_more_below (part_text c.args.phase c.args.calls.now) c.loop-part.part _ _ _
+    c.loop-part.invariant c.in_ok-push_part.ensures

@@ -1,0 +1,3 @@
+pub mod Fires
+pub mod Orders
+pub mod Programs
