@@ -8,16 +8,18 @@
 // each byte, and devices that take so many bytes at a time failing at each call. A file
 // NAME.refused is for scripts/refuse-memory.
 // Gives a line for each case that differs, and at the end how many do; and the same of the places
-// at which cases were broken, and of devices that fail or take little at a time. There is no
-// theorem here; the values are those of the language's rules.
+// at which cases were broken, of devices that fail or take little at a time, and of runs whose
+// stages step in threads. There is no theorem here; the values are those of the language's rules.
 // Stands on strc_cli, whose `command` and `execute_explained` it calls.
 #![tactic(auto)]
 
 mod broken;
 mod devices;
+mod stage_steps;
 
 use crate::broken::run_broken;
 use crate::devices::run_devices;
+use crate::stage_steps::run_stages;
 use std::io::ErrorKind;
 use std::process::ExitCode;
 use std::sync::Wait;
@@ -101,7 +103,9 @@ fn run_all<T: Threads + Wait + Sync>(rt: &HostRuntime, threads: &T) -> io::Resul
     )?;
     let (devices, different) = run_devices(rt, threads)?;
     println!(rt; "{devices} devices, {different} differ")?;
-    Ok(cases_are_as_wanted && broken.different == 0 && different == 0)
+    let (runs, other_steps) = run_stages(rt, threads)?;
+    println!(rt; "{runs} runs by stages, {other_steps} differ")?;
+    Ok(cases_are_as_wanted && broken.different == 0 && different == 0 && other_steps == 0)
 }
 
 /// Whether no case differs.
