@@ -211,7 +211,8 @@ fn push_joined(
 ) -> Result<(), NoMemory>
     requires { start < 2 ^ 97 }
     ensures { OnOk result (text.new.items ≡ text.old.items
-        ++ spec.between_text (option_map (spec.later start) (places.given_at network.now phase node 0))
+        ++ spec.between_text (option_map (spec.later start)
+        (places.given_at network.now phase node 0))
         (places.taken_at network.now phase node port) count) }
 {
     let given = later_than(given_at(network, phase, node, 0), start);

@@ -1,5 +1,5 @@
--- The limits of texts, programs and runs, in numbers. The definitions that they bound cite the code's
--- constants.
+-- The limits of texts, programs and runs, in numbers. The definitions that they bound cite the
+-- code's constants.
 use Rattle.std.specs.Prelude.{◌≡◌, pos}
 use Rattle.strc_balance.specs.declared.fraction.TheConstants.{COUNT_LIMIT}
 use Rattle.strc_elab_graph.specs.declared.graph.TheConstants.{NODE_LIMIT}

@@ -53,8 +53,8 @@ pub record StartsWorkers (plan : PlanParts) (input : List ℤ) (asked : Option �
   pub enough : need_of plan rounds ≤ length input
   pub started : StartsUp plan input
 
--- so many rounds aren't run over an input by so many workers: it is shorter than what they read, and
--- only then; or memory runs out, or a worker of several can't be started
+-- so many rounds aren't run over an input by so many workers: it is shorter than what they read,
+-- and only then; or memory runs out, or a worker of several can't be started
 abbrev pub IsWorkedRefusal : PlanParts → List ℤ → (rounds workers : ℕ) → RunRefusal → Type 0
 IsWorkedRefusal plan input rounds workers (refused.InputShort need got) =
     (need ≡ need_of plan rounds) × (got ≡ length input) × (length input < need_of plan rounds)

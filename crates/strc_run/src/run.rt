@@ -32,8 +32,8 @@ pub const WORKER_LIMIT: u32 = 64;
 /// `BadWorkers` comes where the number of workers isn't one from 1 to 64; then `RoundsNeeded` where
 /// no number of rounds is given and the graph has no reader; then `InputShort` where the input has
 /// fewer items than these rounds read, or than start-up reads where no number is given; `NoMemory`
-/// where memory runs out, and `NoWorker` where a thread is refused; threads are started after start-up,
-/// and only for some round.
+/// where memory runs out, and `NoWorker` where a thread is refused; threads are started after
+/// start-up, and only for some round.
 pub fn run<G: Gate<Stage>, R: Threads + Wait + Sync>(
     rt: &R,
     alloc: Global,

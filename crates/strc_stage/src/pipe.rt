@@ -53,9 +53,9 @@ pub enum State {
 }
 
 impl Pipe {
-    /// Start-up of stages, which this thread runs, and the ring that it leaves, before any event. For
-    /// no rounds, or after a fault of start-up, nothing is left to happen, and `finish` tells the
-    /// outcome.
+    /// Start-up of stages, which this thread runs, and the ring that it leaves, before any event.
+    /// For no rounds, or after a fault of start-up, nothing is left to happen, and `finish` tells
+    /// the outcome.
     ///
     /// Err only where memory runs out.
     pub fn new(alloc: Global, stages: Stages, input: &[i32], rounds: u32) -> Result<Pipe, NoMemory>
@@ -122,7 +122,8 @@ impl Pipe {
         }
     }
 
-    /// Its plan, and the parts of its ring as they are; after a fault of start-up the pipe as it is.
+    /// Its plan, and the parts of its ring as they are; after a fault of start-up the pipe as it
+    /// is.
     pub fn parts(self) -> Result<PipeParts, Pipe>
         ensures plan { IfOk result (λ parts. parts.plan ≡ self.plan) }
         ensures parts { IfOk result (λ parts. IsRingOf parts.ring self.state) }

@@ -159,8 +159,8 @@ module _ (running : Running) (bound : (stage : ℕ) → ℕ) (last : ℕ) (circu
     rounds = 0;
   }
 
-  -- What a ring begins with, for so many rounds: nothing has stopped. All have finished at first where
-  -- there are none.
+  -- What a ring begins with, for so many rounds: nothing has stopped. All have finished at first
+  -- where there are none.
   pub record IsBeginning (rounds : ℕ) (start : Start StageState Load Stop Gathered) : Type 0 where
     pub is_start : IsStart start
     pub stages : length start.stages ≡ suc last

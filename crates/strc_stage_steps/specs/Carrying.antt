@@ -1,4 +1,5 @@
--- What the parcels of a ring carry, and what its stages hold, in any of its states, by the equations.
+-- What the parcels of a ring carry, and what its stages hold, in any of its states, by the
+-- equations.
 use Rattle.std.specs.Prelude.{◌≡◌, ◌⊎◌, ℕ, zero, suc, ◌≤◌, ℤ, List, [], ◌∷◌, ◌++◌, length, take}
 use Rattle.std.specs.Prelude.{Option, Some, None, IsSome, option_to_list, slice_get}
 use Rattle.strc_work_meaning.specs.declared.fault.Cause.{Cause}
@@ -58,15 +59,16 @@ module _ (running : Running) (from : Queues) (bound : (stage : ℕ) → ℕ) (la
       pub loaded : IsLoaded running bound last load blocks words
       pub moved : HasMoved staging actor round blocks words
 
-    -- The first fault of a round in the stages before an actor, where no round before has any there.
+    -- The first fault of a round in the stages before an actor, where no round before has any
+    -- there.
     pub record IsFaultBefore (actor round node firing : ℕ) (cause : Cause) : Type 0 where
       pub stop : generic.Stop Cause
       pub first : IsFirstStop staging actor round stop
       pub named : numbered_on from stop ≡ record { node = node; firing = firing; cause = cause }
 
-    -- A parcel of a round before an actor. Where it is stopped by a fault and that isn't the first of
-    -- its round, it came back so: the collector had received a stopped one before. Of one for which
-    -- there was no memory nothing is known.
+    -- A parcel of a round before an actor. Where it is stopped by a fault and that isn't the first
+    -- of its round, it came back so: the collector had received a stopped one before. Of one for
+    -- which there was no memory nothing is known.
     abbrev pub IsOfRound : (received : List ParcelView) → (actor round : ℕ) → Option Stop → Load
         → Type 0
     IsOfRound received actor round None load = HasCome actor round load
@@ -91,8 +93,8 @@ module _ (running : Running) (from : Queues) (bound : (stage : ℕ) → ℕ) (la
       pub stages : (stage : ℕ) (part : StagePart) → slice_get parts stage ≡ Some part
           → part.actor.stop ≡ None → HoldsRound stage part.actor.taken part.actor.inner
 
--- Rounds that go on from a state that a machine holds, in the restarted graph of which a ring's state
--- is in rounds.
+-- Rounds that go on from a state that a machine holds, in the restarted graph of which a ring's
+-- state is in rounds.
 pub record GoesInRounds (running : Running) (rounds : ℕ) (bound : (stage : ℕ) → ℕ) (last : ℕ)
     (circuit : CircuitView) (started : MachineView) (free : List ParcelView)
     (parts : List StagePart) (end : CollectorPart) : Type 0 where

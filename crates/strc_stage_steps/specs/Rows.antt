@@ -1,6 +1,7 @@
 -- A worked row: a source in one stage and a writer in the next. The source gives 7 in its first
 -- firing, and faults in its second one.
-use Rattle.std.specs.Prelude.{◌≡◌, ℕ, pos, nat_lt, Bool, true, false, List, [], ◌∷◌, Option, Some, None}
+use Rattle.std.specs.Prelude.{◌≡◌, ℕ, pos, nat_lt, Bool, true, false, List, [], ◌∷◌, Option, Some}
+use Rattle.std.specs.Prelude.{None}
 use Rattle.circular_buffer.specs.Buffer.{buffer}
 use Rattle.strc_parse_tree.specs.Tree as tree
 use Rattle.strc_parse_tree.specs.declared.tree.ItemType.TheVariants as item

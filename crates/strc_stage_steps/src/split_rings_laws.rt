@@ -41,8 +41,8 @@ pub fn plan_parcels_fit_stages()
     ensures { PlanParcelsFitStages }
 {}
 
-/// And parcels carry what the rounds of the equations give, up to the first stop, and each stage that
-/// has not stopped holds what it is to hold.
+/// And parcels carry what the rounds of the equations give, up to the first stop, and each stage
+/// that has not stopped holds what it is to hold.
 pub fn plan_rings_are_in_rounds()
     ensures { PlanRingsAreInRounds }
 {}
