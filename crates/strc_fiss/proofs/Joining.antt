@@ -1,6 +1,6 @@
 -- The channels after fission join ports of the parts.
 use Rattle.std.proofs.Common.{◌≡◌, refl, sym, ap, ◌∙◌, subst, ℕ, suc, ◌+◌, ◌<◌, ◌≤◌, arith}
-use Rattle.std.proofs.Common.{List, [], ◌∷◌, ◌++◌, length, map, slice_get, Some, All}
+use Rattle.std.proofs.Common.{List, [], ◌++◌, length, map, slice_get, Some, All}
 use Rattle.std.proofs.Common.{Bool, true, false, cond, ◌&&◌, Option, nat_lt, eqb, filter}
 use Rattle.std.specs.Option.{option_map_or}
 use Rattle.std.proofs.lemmas.Bool.{true≢false}
@@ -24,6 +24,7 @@ use Rattle.strc_fiss.proofs.Each.{Each, each_all, all_each, each_append, each_ma
 use Rattle.strc_fiss.proofs.Each.{each_up_to, each_joined, each_more}
 use Rattle.strc_fiss.proofs.Lookup.{part_there}
 use Rattle.strc_fiss.proofs.Shares.{there_by}
+use Rattle.strc_fiss.proofs.Wires.{each_wire}
 
 pub both_true : (a b : Bool) → (a && b) ≡ true → (a ≡ true) × (b ≡ true)
 both_true true b e = (refl, e)
@@ -240,22 +241,12 @@ module _ (share : ℕ → Fission) (graph : Graph) (is : IsGraph graph)
                 (subst (λ (c : NodeCode). i < input_ports c) (sym (gather e)) inside);
           }))
 
-  old_joins : (channels : List Channel) (greatest last : List ℕ)
-      → Each (JoinsPorts graph.nodes) channels
-      → Each (λ (wire : Wire). JoinsPorts graph.nodes wire.channel)
-      (wires_of channels greatest last)
-  old_joins [] greatest last each = tt
-  old_joins (channel ∷ channels) [] last each = tt
-  old_joins (channel ∷ channels) (high ∷ greatest) [] each = tt
-  old_joins (channel ∷ channels) (high ∷ greatest) (held ∷ last) each =
-      (each.0, old_joins channels greatest last each.1)
-
   pub wires_join : (greatest last : List ℕ)
       → All (JoinsPorts (each_part share (new_code share graph.nodes) (length graph.nodes)))
       (map (λ (wire : Wire). wire.channel) (split_wires share graph greatest last))
   wires_join greatest last =
       let wires = wires_of graph.channels greatest last in
-      let before = old_joins graph.channels greatest last
+      let before = each_wire (JoinsPorts graph.nodes) graph.channels greatest last
       (all_each (JoinsPorts graph.nodes) graph.channels is.channels) in
       each_all (JoinsPorts (each_part share (new_code share graph.nodes) (length graph.nodes)))
       (map (λ (wire : Wire). wire.channel) (split_wires share graph greatest last))

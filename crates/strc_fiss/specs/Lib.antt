@@ -1,7 +1,10 @@
 pub mod Fissions
 pub mod Groups
 pub mod Laws
+pub mod Namings
+pub mod NewRounds
 pub mod Numbers
+pub mod OwnUnits
 pub mod Rows
 pub mod Sentences
 pub mod Splits

@@ -34,7 +34,9 @@ is_alike (Some (Filter name filter)) = passes_items filter && is_stateless filte
 is_alike (Some Identity) = true
 is_alike _ = false
 
--- a channel leads from a node to itself
+-- A channel leads from a node to itself. Such a node is not split: each of its firings takes what
+-- the one before gave, and where the channel holds fewer items than the scatter takes at once, the
+-- round after fission would be no order.
 abbrev pub is_own : (node : ℕ) → Channel → Bool
 is_own node channel = nat_eq channel.source.node node && nat_eq channel.target.node node
 

@@ -12,15 +12,18 @@ ghost use Rattle.strc_sched_orders.specs.Peaks.{AreRaised, HasNodes};
 ghost use Rattle.strc_sched_orders.specs.Sizing.{round_rates_on, PassesOn};
 ghost use Rattle.strc_sched_orders.specs.declared.error.ScheduleError.TheVariants as unsized;
 ghost use Rattle.strc_fiss.specs.Fissions.{IsFission, SplitPasses};
+ghost use Rattle.strc_fiss.specs.NewRounds.{DealsRound, KeepsRound};
 ghost use Rattle.strc_fiss.specs.Numbers.{node_limit, up_to, share_at, is_dealt, base, each_part};
+ghost use Rattle.strc_fiss.specs.OwnUnits.{round_fission};
 ghost use Rattle.strc_fiss.specs.Splitting as spec;
-ghost use Rattle.strc_fiss.specs.Ways.{fission_of, is_alike};
+ghost use Rattle.strc_fiss.specs.Ways.{is_alike};
 ghost use Rattle.strc_fiss.specs.WireView.{wire_view};
 ghost use Rattle.strc_fiss.specs.declared.error.FissError.TheVariants as refused;
 
 use crate::channels::{Wire, channels_of, greatest_of, lasts_of, new_wires};
 use crate::error::FissError;
 use crate::numbers::bases_of;
+use crate::own_units::dealt_counts;
 use crate::parts::{new_loops, new_nodes, new_origins};
 use crate::rounds::split_round;
 use crate::split::Split;
@@ -37,12 +40,13 @@ use strc_sched_orders::unit::Unit;
 
 /// Splits the filters without state of a graph, identities too, among copies.
 ///
-/// A filter is split that takes and gives items, stands in no feedback loop, and fires so often in
-/// a round that its firings can be dealt evenly to several copies, at most `ways`: to as many as
-/// can be. In its place stand a scatter, the copies and a gather, in this order. Its firings in a
-/// round become one of the scatter, the copies' shares, and one of the gather (Gordon, Thies and
-/// Amarasinghe 2006: fission). Start-up is as before, and its order names nodes by their old
-/// numbers. The time is linear in the graph and its round, but for `ways` steps at a node.
+/// A filter is split that takes and gives items, stands in no feedback loop, and has all its
+/// firings in a round in one unit of its own: so many that they can be dealt evenly to several
+/// copies, at most `ways`: to as many as can be. In its place stand a scatter, the copies and a
+/// gather, in this order. Its firings in a round become one of the scatter, the copies' shares, and
+/// one of the gather (Gordon, Thies and Amarasinghe 2006: fission). So the new round is an order
+/// where the old one is. Start-up is as before, and its order names nodes by their old numbers. The
+/// time is linear in the graph and its round, but for `ways` steps at a node.
 ///
 /// The schedule has an entry for each channel, and its round names nodes of the graph. `NodeLimit`
 /// comes where there would be more than 4,096 nodes. `BufferLimit` comes where that isn't so, for
@@ -58,16 +62,25 @@ pub fn fission(
     requires greatest { length schedule.now.greatest ≡ length graph.now.channels }
     requires last { length schedule.now.last ≡ length graph.now.channels }
     requires nodes { All (HasNodes (length graph.now.nodes)) schedule.now.round }
-    ensures split { IfOk result (IsFission
-        (fission_of (graph_view graph.now) round_counts.now ways) (graph_view graph.now)
+    ensures split { IfOk result (IsFission (round_fission (graph_view graph.now)
+        (round_units schedule.now.round) round_counts.now ways) (graph_view graph.now)
         schedule.now) }
+    // Where each firing of the round finds its windows in the items after start-up, so does each of
+    // the new one.
+    ensures order { IfOk result (KeepsRound (graph_view graph.now) schedule.now) }
+    // The firings of a node that is split are dealt to its parts.
+    ensures counts { IfOk result (DealsRound (round_fission (graph_view graph.now)
+        (round_units schedule.now.round) round_counts.now ways) schedule.now) }
     ensures nodes { result ≡ Err refused.NodeLimit → node_limit < base
-        (fission_of (graph_view graph.now) round_counts.now ways) (length graph.now.nodes) }
+        (round_fission (graph_view graph.now) (round_units schedule.now.round) round_counts.now
+        ways) (length graph.now.nodes) }
     ensures limit { (channel : ℕ) → result ≡ Err (refused.BufferLimit channel)
-        → SplitPasses (fission_of (graph_view graph.now) round_counts.now ways)
-        (graph_view graph.now) schedule.now channel }
+        → SplitPasses (round_fission (graph_view graph.now) (round_units schedule.now.round)
+        round_counts.now ways) (graph_view graph.now) schedule.now channel }
 {
-    let shares = shares_of(alloc, graph, round_counts, ways)?;
+    joins_ports(graph);
+    let dealt = dealt_counts(alloc, graph, schedule.round(), round_counts)?;
+    let shares = shares_of(alloc, graph, &dealt, ways)?;
     let bases = bases_of(alloc, &shares)?;
     split_by(alloc, graph, schedule, &shares, &bases)
 }

@@ -1,7 +1,7 @@
-// What fission is, as laws about all graphs, and a worked row.
+// What fission is, as laws about all graphs, and worked rows.
 
 ghost use Rattle.strc_fiss.specs.Laws.{PartsAreNumbered, UnitsArePieces};
-ghost use Rattle.strc_fiss.specs.Rows.{FissionRow};
+ghost use Rattle.strc_fiss.specs.Rows.{FissionRow, WholeRow};
 
 /// The parts of each node have numbers in a row, and those of the next node follow.
 pub fn parts_are_numbered()
@@ -16,4 +16,9 @@ pub fn units_are_pieces()
 /// A filter that is split in two ways: nodes, channels, units, and what each node is a part of.
 pub fn fission_row()
     ensures { FissionRow }
+{}
+
+/// An identity that fires twice in a round, once in each of two units, isn't split.
+pub fn whole_row()
+    ensures { WholeRow }
 {}

@@ -33,6 +33,7 @@ use strc_parse_tree::tree::Program;
 use strc_run_refusal::placed_refusal::PlacedRefusal;
 use strc_sched_orders::scheduler::schedule;
 pub use strc_stage_plan::plan::Plan;
+use strc_stage_plan::split_laws::greedy_rounds_deal_all;
 use strc_startup::startup::startup;
 
 /// The plan of the program's main stream, or the refusal of the first rule that is broken, as
@@ -101,8 +102,9 @@ fn compile_program(
 {
     // The nodes of a stream move items, which their rates stand on.
     nodes_deal();
-    // A greedy schedule can be fused.
+    // A greedy schedule can be fused, and all firings of each node can be dealt.
     schedules_can_be_fused();
+    greedy_rounds_deal_all();
     let stream = main_stream(alloc, program, main)?;
     let graph = match flatten(alloc, &stream) {
         Ok(graph) => graph,

@@ -29,8 +29,8 @@ use Rattle.strc_fiss.specs.Units.{split_units}
 use Rattle.strc_fiss.specs.Ways.{fission_of}
 use Rattle.strc_fiss.proofs.Pieced.{pieces_before, pieces_after, pieces_own}
 use Rattle.strc_fiss.proofs.Planned.{some_count, some_firings}
-use Rattle.strc_stage_plan.proofs.Counts.{alls, old_count, kept_count, scatter_count, copy_count}
-use Rattle.strc_stage_plan.proofs.Counts.{gather_count}
+use Rattle.strc_fiss.proofs.PartCounts.{alls, old_count, kept_count, scatter_count, copy_count}
+use Rattle.strc_fiss.proofs.PartCounts.{gather_count}
 use Rattle.strc_stage_plan.proofs.NewChannels.{apart}
 use Rattle.strc_stage_plan.proofs.Numbers.{each_number}
 use Rattle.strc_stage_plan.proofs.OwnUnits.{greedy_rounds_own}

@@ -1,5 +1,5 @@
 -- The graph after fission is the flat graph of its nodes and channels.
-use Rattle.std.proofs.Common.{◌≡◌, refl, sym, ap, ◌∙◌, subst, ℕ, ◌*◌, ◌<◌, arith}
+use Rattle.std.proofs.Common.{◌≡◌, refl, sym, ap, ◌∙◌, subst, ℕ}
 use Rattle.std.proofs.Common.{List}
 use Rattle.std.proofs.Common.{length, true, false, Option, Some, None, slice_get}
 use Rattle.std.specs.Option.{option_map_or}
@@ -25,16 +25,14 @@ use Rattle.strc_fiss.specs.Numbers.{is_dealt}
 use Rattle.strc_fiss.specs.Splitting.{code_at, copied}
 use Rattle.strc_fiss.specs.Ways.{is_alike, fission_of}
 use Rattle.strc_fiss.proofs.Each.{Each, all_each, each_all}
-use Rattle.strc_fiss.proofs.Planned.{all_dealt, some_count}
 use Rattle.strc_stage_plan.specs.SplitLaws.{new_graph}
 use Rattle.strc_stage_plan.specs.Runs.{graph_before, graph_after}
 use Rattle.strc_stage_plan.specs.Sources.{source_at, takes_input, EndApart}
-use Rattle.strc_stage_plan.proofs.Lawful.{greatest_many, last_many, possible, code_alike, here}
+use Rattle.strc_stage_plan.proofs.Lawful.{greatest_many, last_many, possible, code_alike}
 use Rattle.strc_stage_plan.proofs.Members.{each_in}
 use Rattle.strc_stage_plan.proofs.NewChannels.{new_channels}
 use Rattle.strc_stage_plan.proofs.Orders.{ends_apart}
-use Rattle.strc_stage_plan.proofs.SplitParts.{no_loop}
-use Rattle.strc_stage_plan.proofs.SplitRounds.{new_apart}
+use Rattle.strc_stage_plan.proofs.NewApart.{new_apart}
 use Rattle.strc_stage_plan.proofs.Splits.{at_reader, at_other}
 use Rattle.strc_stage_plan.proofs.Codes as codes
 use Rattle.strc_stage_plan.proofs.Numbers.{each_number}
@@ -109,18 +107,8 @@ module _ (tree : Stream NodeCode) (old : Graph) (schedule : ScheduleParts) (roun
       (new_graph old schedule round ways).channels
   joined = new_joined share old schedule.greatest schedule.last alike (trees.flat tree) old_by
 
-  some : (v : ℕ) → is_dealt (fission_of old round ways v) ≡ true
-      → 0 < (fission_of old round ways v).ways * (fission_of old round ways v).firings
-  some v dealt = omega (arith, all_dealt old round ways v dealt, some_count old round ways v dealt)
-
   apart_after : EndApart (new_graph old schedule round ways)
-  apart_after = new_apart (any_code tree) share old schedule.greatest schedule.last is ends first
-      second alike
-      (code_alike (any_code tree) old schedule round ways none is ends planned known)
-      (here (any_code tree) old schedule round ways none is ends planned known) some
-      (λ v dealt.
-      let can = possible (any_code tree) old schedule round ways none is ends planned known v dealt
-      in no_loop old ends v can.0 can.1)
+  apart_after = new_apart share old schedule.greatest schedule.last is ends first second alike
 
   by_new : IsByChannels (graph_after tree old schedule round ways)
       (new_graph old schedule round ways)

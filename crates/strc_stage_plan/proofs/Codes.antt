@@ -5,7 +5,6 @@ use Rattle.std.proofs.Common.{slice_get}
 use Rattle.std.specs.Prelude.{IfOk, unwrap_or}
 use Rattle.std.proofs.lemmas.Bool.{true≢false, and_parts}
 use Rattle.std.proofs.lemmas.Option.{slice_get-get_or}
-use Rattle.strc_parse_tree.specs.Tree as syntax
 use Rattle.strc_elab_dataflow.specs.Flat as flat
 use Rattle.strc_elab_dataflow.specs.Streams.{Stream, any_code}
 use Rattle.strc_elab_dataflow.specs.Streams as trees

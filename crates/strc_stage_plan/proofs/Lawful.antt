@@ -14,12 +14,10 @@ use Rattle.strc_elab_graph.specs.Graphs.{Graph, NodeCode, Filter, Identity, File
 use Rattle.strc_elab_graph.specs.Graphs.{Splitter, Joiner, Scatter, Copy, Gather, IsGraph, ports_of}
 use Rattle.strc_elab_graph.specs.Graphs.{original, input_ports}
 use Rattle.strc_elab_graph.specs.Meaning.{node_meaning}
-use Rattle.strc_elab_graph.specs.Rates.{rate_at_0, window_at, pushes_at}
 use Rattle.strc_elab_graph.specs.declared.graph.Fission.{Fission}
 use Rattle.strc_elab_dataflow.specs.Split.{IsStateless, IsScatter, IsCopy, IsGather, AreParts}
 use Rattle.strc_balance.specs.Balance.{count_at}
 use Rattle.strc_startup.specs.Rates.{rates_of, rates_of_channel}
-use Rattle.strc_sched_orders.specs.RoundRates.{pops_in_round}
 use Rattle.strc_sched_orders.specs.Schedules.{ScheduleParts}
 use Rattle.strc_sched_laws.specs.Planned.{IsFilterOf, IsPlanned, AreKnown}
 use Rattle.strc_fuse.specs.Units.{is_outside}
@@ -48,10 +46,6 @@ pub record IsAlike (code : NodeCode) (share : Fission) : Type 0 where
   pub narrow : share.pop ≤ share.window
   pub copied_is : original (copied code) ≡ code
   pub ports : HasOnePort code
-  -- the rates of its firings by work
-  pub looks_at : (port : ℕ) → window_at code 1 port ≡ rate_at_0 share.window port
-  pub pops : (port : ℕ) → pops_in_round code port ≡ rate_at_0 share.pop port
-  pub pushes : (port : ℕ) → pushes_at code 1 port ≡ rate_at_0 share.push port
 
 module _ (old : Graph) (schedule : ScheduleParts) (planned : IsPlanned old schedule)
     (known : AreKnown old) where
@@ -71,9 +65,6 @@ module _ (old : Graph) (schedule : ScheduleParts) (planned : IsPlanned old sched
         narrow = omega arith;
         copied_is = refl;
         ports = alike_ports (Filter name filter) alike;
-        looks_at = λ port. refl;
-        pops = λ port. refl;
-        pushes = λ port. refl;
       }
   alike_is v Identity count ways there alike = record {
     filter = identities_alike (share_of (dealt (Some Identity) count ways))
@@ -81,9 +72,6 @@ module _ (old : Graph) (schedule : ScheduleParts) (planned : IsPlanned old sched
     narrow = omega arith;
     copied_is = refl;
     ports = alike_ports Identity alike;
-    looks_at = λ port. refl;
-    pops = λ port. refl;
-    pushes = λ port. refl;
   }
   alike_is v (FileReader text) count ways there alike = absurd (true≢false (sym alike))
   alike_is v (FileWriter text) count ways there alike = absurd (true≢false (sym alike))

@@ -17,8 +17,6 @@ pub mod Divisors
 pub mod Ends
 pub mod FusedRuns
 pub mod Fusions
-pub mod Held
-pub mod HeldSplit
 pub mod Lawful
 pub mod Layouts
 pub mod Members
@@ -34,16 +32,13 @@ pub mod Rows
 pub mod RunRows
 pub mod Runs
 pub mod SplitParts
-pub mod SplitRounds
 pub mod Splits
-pub mod Steady
 pub mod Trees
 pub mod Refusals
 pub mod Balances
 pub mod Blank
 pub mod BlankSplits
 pub mod Codes
-pub mod Counts
 pub mod Dealt
 pub mod FirstRounds
 pub mod Fused
@@ -61,3 +56,5 @@ pub mod NewSources
 pub mod NewEnds
 pub mod Fed
 pub mod ByChannels
+pub mod ProgramShares
+mod NewApart

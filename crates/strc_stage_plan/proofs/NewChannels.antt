@@ -16,21 +16,13 @@ use Rattle.strc_fiss.specs.Splitting.{renamed_channel, renamed_wire, leaving, sp
 use Rattle.strc_fiss.proofs.Each.{Each, each_append, each_map, each_filter, each_more, each_up_to}
 use Rattle.strc_fiss.proofs.Each.{each_joined}
 use Rattle.strc_fiss.proofs.Renaming.{last_dealt}
+use Rattle.strc_fiss.proofs.Wires.{each_wire}
 use Rattle.strc_stage_plan.proofs.Ends.{Ends, ends_there, ends_by}
 use Rattle.strc_stage_plan.proofs.Members.{In, in_left, in_right, in_map, in_filter, in_up_to}
 use Rattle.strc_stage_plan.proofs.Members.{in_joined}
 
 abbrev channel_of : Wire → Channel
 channel_of wire = wire.channel
-
--- the channels of wires
-pub each_wire : (P : Channel → Type 0) (channels : List Channel) (greatest last : List ℕ)
-    → Each P channels → Each (λ (wire : Wire). P wire.channel) (wires_of channels greatest last)
-each_wire P [] greatest last each = tt
-each_wire P (channel ∷ channels) [] last each = tt
-each_wire P (channel ∷ channels) (high ∷ greatest) [] each = tt
-each_wire P (channel ∷ channels) (high ∷ greatest) (held ∷ last) each =
-    (each.0, each_wire P channels greatest last each.1)
 
 wire_there : (own : Channel) (channels : List Channel) (greatest last : List ℕ)
     → length greatest ≡ length channels → length last ≡ length channels → In own channels

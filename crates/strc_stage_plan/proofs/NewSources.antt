@@ -10,7 +10,8 @@ use Rattle.strc_fiss.specs.Splitting.{Wire, wires_of, to_copy, from_copy, leaves
 use Rattle.strc_fiss.specs.Splitting.{renamed_wire, leaving, split_wires}
 use Rattle.strc_fiss.proofs.Each.{Each, each_append, each_map, each_more, each_up_to}
 use Rattle.strc_fiss.proofs.Renaming.{last_dealt}
-use Rattle.strc_stage_plan.proofs.NewChannels.{apart, copy_within, new_channels, each_wire}
+use Rattle.strc_fiss.proofs.Wires.{each_wire}
+use Rattle.strc_stage_plan.proofs.NewChannels.{apart, copy_within, new_channels}
 use Rattle.strc_stage_plan.proofs.Sources.{Apart, Differs, apart_from, apart_append}
 use Rattle.strc_stage_plan.proofs.Sources.{apart_filter, apart_up_to, apart_joined, apart_more}
 use Rattle.strc_stage_plan.proofs.Sources.{apart_map}

@@ -28,7 +28,7 @@ use Rattle.strc_stage_plan.proofs.Runs.{own_round}
 use Rattle.strc_stage_plan.specs.SplitStagesRounds.{SplitRoundsRepeat}
 use Rattle.strc_stage_plan.proofs.Codes.{old_alone, kept_code, scatter_code, copy_code}
 use Rattle.strc_stage_plan.proofs.Codes.{gather_code}
-use Rattle.strc_stage_plan.proofs.Counts.{alls, kept_count, copy_count}
+use Rattle.strc_fiss.proofs.PartCounts.{alls, kept_count, copy_count}
 use Rattle.strc_stage_plan.proofs.Numbers.{each_number}
 use Rattle.strc_stage_plan.proofs.OwnRounds.{OwnRound, share, before, after, parts, startup}
 use Rattle.strc_stage_plan.proofs.OwnRounds.{in_round, blocks, dealt, round_blocks, after_is}

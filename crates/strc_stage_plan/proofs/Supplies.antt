@@ -24,7 +24,7 @@ use Rattle.strc_stage_plan.specs.Runs.{graph_before}
 use Rattle.strc_stage_plan.proofs.NewChannels.{apart}
 use Rattle.strc_stage_plan.proofs.Owners.{owner_is}
 use Rattle.strc_stage_plan.proofs.Codes.{scatter_code}
-use Rattle.strc_stage_plan.proofs.Counts.{alls, old_count, scatter_count}
+use Rattle.strc_fiss.proofs.PartCounts.{alls, old_count, scatter_count}
 use Rattle.strc_stage_plan.proofs.Dealt.{first_ports}
 use Rattle.strc_stage_plan.proofs.NewRounds.{new_fired, new_queues}
 use Rattle.strc_stage_plan.proofs.Numbers.{each_number}

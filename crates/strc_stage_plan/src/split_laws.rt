@@ -7,7 +7,7 @@ ghost use Rattle.strc_stage_plan.specs.SplitLaws.{SplitGraphsAreSplit};
 ghost use Rattle.strc_stage_plan.specs.Orders.{SplitRoundsAreOrders};
 ghost use Rattle.strc_stage_plan.specs.Owners.{OwnersAreOrigins};
 ghost use Rattle.strc_stage_plan.specs.Refusals.{TransformedOrRefused};
-ghost use Rattle.strc_stage_plan.specs.Rounds.{GreedyRoundsAreOwn};
+ghost use Rattle.strc_stage_plan.specs.Rounds.{GreedyRoundsAreOwn, GreedyRoundsDealAll};
 ghost use Rattle.strc_stage_plan.specs.SplitRows.{SplitRow};
 ghost use Rattle.strc_stage_plan.specs.RunRows.{RunRow};
 ghost use Rattle.strc_stage_plan.specs.Runs.{FissionKeepsProgramRuns};
@@ -27,6 +27,12 @@ pub fn split_graphs_are_split()
 /// In the greedy round of a whole program each node that is split has all its firings in one unit.
 pub fn greedy_rounds_are_own()
     ensures { GreedyRoundsAreOwn }
+{}
+
+/// So all firings of each node can be dealt there, and `fission` splits nodes by how often they
+/// fire in a round.
+pub fn greedy_rounds_deal_all()
+    ensures { GreedyRoundsDealAll }
 {}
 
 /// The node and the part that a number has are those of the origins that fission gives.

@@ -37,7 +37,7 @@ use Rattle.strc_stage_plan.proofs.Balances.{settled}
 use Rattle.strc_stage_plan.proofs.Codes.{old_alone, kept_code, scatter_code, copy_code}
 use Rattle.strc_stage_plan.proofs.Codes.{gather_code}
 use Rattle.strc_stage_plan.proofs.Codes as codes
-use Rattle.strc_stage_plan.proofs.Counts.{alls, old_count, scatter_count, gather_count}
+use Rattle.strc_fiss.proofs.PartCounts.{alls, old_count, scatter_count, gather_count}
 use Rattle.strc_stage_plan.proofs.NewRounds.{new_fired}
 use Rattle.strc_stage_plan.proofs.Numbers.{each_number}
 use Rattle.strc_stage_plan.proofs.OwnRounds.{OwnRound, before, parts, startup, in_round, blocks}

@@ -102,6 +102,15 @@ const LOOP_CASE: &str = "FileReader Identity join Identity split Identity FileWr
      0.0-1.0 1.0-2.0 2.0-3.0 3.0-4.0 4.0-6.0 4.1-5.0 5.0-2.1 | \
      1*0 1*1 1*2 2*3 1*4 1*5 1*6 | 0:0 1:0 2:0 3:0 4:0 5:0 6:0 | 1 1 2 2 1 1 1";
 
+/// An identity, the reader that gives to it, with one item enqueued, and a node that takes two
+/// items: the identity fires twice in a round, once in each of two units, and stays whole.
+const TURNED: [Kind; 3] = [Kind::Identity, Kind::Reader, Kind::Split(1, 1)];
+
+const TURNED_CHANNELS: [Ends; 2] = [(0, 0, 2, 0), (1, 0, 0, 0)];
+
+const TURNED_CASE: &str = "Identity FileReader split | 0.0-2.0 1.0-0.0 | 1*0 2*1 1*0 1*2 | \
+     0:0 1:0 2:0 | 2 2";
+
 fn nodes_text(alloc: Global, graph: &Graph) -> Result<String, Fail> {
     let mut text = String::new(alloc);
     for node in 0..graph.nodes().len() {
@@ -201,6 +210,14 @@ fn round_a_loop(rt: HostRuntime) -> Result<(), Fail> {
     let alloc = rt.alloc();
     let graph = graph_of(&rt, alloc, &LOOP, &LOOP_CHANNELS, 1, (2, 6))?;
     assert_eq!(rt; answer_of(alloc, &graph, 64)?.as_str(), LOOP_CASE);
+    Ok(())
+}
+
+#[test]
+fn in_two_units(rt: HostRuntime) -> Result<(), Fail> {
+    let alloc = rt.alloc();
+    let graph = graph_of(&rt, alloc, &TURNED, &TURNED_CHANNELS, 1, (0, 0))?;
+    assert_eq!(rt; answer_of(alloc, &graph, 2)?.as_str(), TURNED_CASE);
     Ok(())
 }
 

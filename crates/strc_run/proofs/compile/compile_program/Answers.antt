@@ -150,13 +150,21 @@ returns-in-Err-schedule-clause-plan c = λ text spells.
     (λ is. (reported.before (ap Err is), reported.round (ap Err is))))
     (λ channel is. reported.limit channel (ap Err is)))
 
-pub transformed-requires : goal.transformed-requires
-transformed-requires c =
+pub transformed-requires-clause-fusible : goal.transformed-requires-clause-fusible
+transformed-requires-clause-fusible c =
     let counts = c.in-Ok-balance.ensures in
     c.schedules_can_be_fused.ensures (graph_view c.in-Ok.graph)
     (count_at c.in-Ok-startup.counts) c.in-Ok-balance.counts
     c.in-Ok-schedule.schedule c.in-Ok-schedule.ensures.schedule
     (omega (arith, counts.least.balances.each))
+
+pub transformed-requires-clause-whole : goal.transformed-requires-clause-whole
+transformed-requires-clause-whole c =
+    let sound = c.in_ok-stream.ensures.sound in
+    c.greedy_rounds_deal_all.ensures (graph_view c.in-Ok.graph) (stream_view c.in_ok-stream.stream)
+    (count_at c.in-Ok-startup.counts) c.in-Ok-balance.counts c.in-Ok-schedule.schedule
+    c.args.ways sound.closed.typed (c.in-Ok.ensures.program sound.closed) c.in-Ok.ensures.loops
+    c.in-Ok-schedule.ensures.schedule
 
 pub returns-in-Err-transformed-clause-plan : goal.returns-in-Err-transformed-clause-plan
 returns-in-Err-transformed-clause-plan c = λ text spells.
