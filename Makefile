@@ -14,7 +14,8 @@ prove: ## proves the compiler and keeps the proved program (30 to 45 minutes)
 
 gate: ## proves and tests everything, and the documents (some 260 processor minutes)
 	@scripts/documents --check; documents=$$?; scripts/unused; unused=$$?; \
-	rt ci && ./strc --keep && scripts/refuse-memory --cases && exit $$((documents + unused))
+	rt ci && ./strc --keep && scripts/refuse-memory --cases && \
+	scripts/native-cases --plain --programs 300 && exit $$((documents + unused))
 
 test: build ## the examples, and what a shell can do to a run
 	scripts/examples

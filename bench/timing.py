@@ -3,6 +3,7 @@ and the tables of README.md.
 """
 import os
 import re
+import resource
 import subprocess
 import sys
 import time
@@ -30,6 +31,13 @@ def timed(command):
     begun = time.perf_counter()
     output = subprocess.run(command, stdout=subprocess.PIPE, check=True).stdout
     return output, time.perf_counter() - begun
+
+
+def user_time(command):
+    """The output of a run, and how many seconds of user time it took."""
+    before = resource.getrusage(resource.RUSAGE_CHILDREN).ru_utime
+    output = subprocess.run(command, stdout=subprocess.PIPE, check=True).stdout
+    return output, resource.getrusage(resource.RUSAGE_CHILDREN).ru_utime - before
 
 
 def machine():

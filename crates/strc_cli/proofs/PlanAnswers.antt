@@ -13,7 +13,6 @@ use Rattle.strc_run.specs.Rounds.{plan_reads}
 use Rattle.strc_run.specs.TextRuns.{has_reader}
 use Rattle.strc_cli.specs.declared.answer.Answer.{Answer}
 use Rattle.strc_cli.specs.declared.answer.Answer.TheVariants as answer
-use Rattle.strc_cli_output.specs.declared.stop.Stop.{Stop}
 use Rattle.strc_cli_output.specs.declared.stop.Stop.TheVariants as stop
 use Rattle.strc_cli_words.specs.declared.line.Command.TheVariants as command
 use Rattle.strc_cli_input.specs.declared.input.ReadStop.{ReadStop}
@@ -75,9 +74,9 @@ module _ (text : List ℕ) (main : Option (String Global)) (ways fuse : ℕ) (pl
     given_here : IsInput (has_reader is.accepted.stream) bytes input
     given_here = subst (λ b. IsInput b bytes input) same_reader given
 
-    plan_answered : (result : Result Answer Stop) → IsRunAnswer plan input rounds workers result
+    plan_answered : (result : Answer) → IsRunAnswer plan input rounds workers result
         → IsAnswered text (command.Run rounds workers ways fuse stats main) bytes (Ok result)
-    plan_answered (Ok (answer.Ran own outcome)) runs = (
+    plan_answered (answer.Ran own outcome) runs = (
       subst (IsPlanOf text (chosen main ways fuse)) (sym runs.0) is,
       record {
         plan = plan;
@@ -88,8 +87,11 @@ module _ (text : List ℕ) (main : Option (String Global)) (ways fuse : ℕ) (pl
             is runs.1;
       },
     )
-    plan_answered (Ok answer) never = absurd never
-    plan_answered (Err (stop.NotRun why)) unrun = record {
+    plan_answered (answer.Checked nodes channels) never = absurd never
+    plan_answered (answer.Planned plan) never = absurd never
+    plan_answered (answer.Drawn picture) never = absurd never
+    plan_answered (answer.Emitted program) never = absurd never
+    plan_answered (answer.Stopped (stop.NotRun why)) unrun = record {
       plan = plan;
       accepted = is.accepted;
       input = input;
@@ -97,10 +99,12 @@ module _ (text : List ℕ) (main : Option (String Global)) (ways fuse : ℕ) (pl
       ends = answers text (chosen main ways fuse) plan input rounds workers (Err why) is
           unrun;
     }
-    plan_answered (Err why) never = absurd never
+    plan_answered (answer.Stopped (stop.Refused placed)) never = absurd never
+    plan_answered (answer.Stopped (stop.BadInput word)) never = absurd never
+    plan_answered (answer.Stopped (stop.ArrayLimit items)) never = absurd never
 
   -- a run of the plan over its input is one of the text
-  pub input_run : PlansAnswerTexts → (numbers : Vec ℤ Global) (result : Result Answer Stop)
+  pub input_run : PlansAnswerTexts → (numbers : Vec ℤ Global) (result : Answer)
       → IsInputOf (plan_reads plan) bytes (Ok numbers)
       → IsRunAnswer plan numbers.items rounds workers result
       → IsAnswered text (command.Run rounds workers ways fuse stats main) bytes (Ok result)

@@ -1,5 +1,5 @@
 -- Where a command's text is refused.
-use Rattle.std.proofs.Common.{ℕ, List, Result, Ok, Err}
+use Rattle.std.proofs.Common.{ℕ, List, Ok}
 use Rattle.strc_run_refusal.specs.declared.refusal.Refusal.{Refusal}
 use Rattle.strc_run_refusal.specs.declared.refusal.Refusal.TheVariants as refusal
 use Rattle.strc_stage_plan.specs.Plans.{PlanParts}
@@ -8,9 +8,9 @@ use Rattle.strc_run.specs.Laws.{AcceptedOrRefused}
 use Rattle.strc_run.specs.Located.{IsLocated}
 use Rattle.strc_run.specs.Plans.{IsPlanOf}
 use Rattle.strc_run.specs.Refuses.{IsReadRefusal, IsTrueOf}
-use Rattle.strc_cli_output.specs.declared.stop.Stop.{Stop}
 use Rattle.strc_cli_output.specs.declared.stop.Stop.TheVariants as stop
 use Rattle.strc_cli.specs.declared.answer.Answer.{Answer}
+use Rattle.strc_cli.specs.declared.answer.Answer.TheVariants as answer
 use Rattle.strc_cli_words.specs.declared.line.Command.{Command}
 use Rattle.strc_cli.specs.Answering.{choice_of}
 use Rattle.strc_cli.specs.Drawing.{IsDrawn}
@@ -28,10 +28,15 @@ read_refusal law text choice plan is refused true =
 
 -- so is one of its picture
 pub drawn_unrefused : (text : List ℕ) (command : Command) → AcceptedOrRefused → (plan : PlanParts)
-    → IsPlanOf text (choice_of command) plan → (result : Result Answer Stop)
+    → IsPlanOf text (choice_of command) plan → (result : Answer)
     → IsDrawn text (choice_of command) plan result → IsRefusedAt text command (Ok result)
-drawn_unrefused text command law plan is (Ok answer) drawn = tt
-drawn_unrefused text command law plan is (Err (stop.Refused placed)) drawn = IsLocated.Unread
+drawn_unrefused text command law plan is (answer.Ran other outcome) drawn = tt
+drawn_unrefused text command law plan is (answer.Checked nodes channels) drawn = tt
+drawn_unrefused text command law plan is (answer.Planned other) drawn = tt
+drawn_unrefused text command law plan is (answer.Drawn picture) drawn = tt
+drawn_unrefused text command law plan is (answer.Emitted program) drawn = tt
+drawn_unrefused text command law plan is (answer.Stopped (stop.Refused placed)) drawn = IsLocated.Unread
     (read_refusal law text (choice_of command) plan is placed.refusal drawn.0) drawn.1
-drawn_unrefused text command law plan is (Err (stop.BadInput word)) drawn = tt
-drawn_unrefused text command law plan is (Err (stop.NotRun why)) drawn = tt
+drawn_unrefused text command law plan is (answer.Stopped (stop.BadInput word)) drawn = tt
+drawn_unrefused text command law plan is (answer.Stopped (stop.NotRun why)) drawn = tt
+drawn_unrefused text command law plan is (answer.Stopped (stop.ArrayLimit items)) drawn = tt

@@ -14,6 +14,7 @@ use Rattle.strc_cli_output.specs.Pictures.{picture_text}
 use Rattle.strc_cli_output.specs.Stages.{plan_picture_text}
 use Rattle.strc_stage_plan.specs.Plans.{PlanParts, graph_of}
 use Rattle.strc_stage_plan.specs.Bounds.{stage_bounds}
+use Rattle.strc_emit.specs.Emitting.{IsProgramOf, PassesItemLimit}
 use Rattle.strc_run.specs.Accepts.{Accepts}
 use Rattle.strc_run.specs.Choices.{Choice}
 use Rattle.strc_run.specs.Plans.{IsPlanOf}
@@ -49,6 +50,7 @@ abbrev pub choice_of : Command → Choice
 choice_of (command.Run rounds workers ways fuse stats main) = chosen main ways fuse
 choice_of (command.Check main) = plain main
 choice_of (command.Plan main) = plain main
+choice_of (command.Emit main) = plain main
 choice_of (command.Graph workers ways fuse main) = drawn_so ways fuse main
 
 -- the input of a program that reads one is what the bytes write; that of another one is empty
@@ -91,6 +93,19 @@ pub record HasPicture (text : List ℕ) (choice : Choice) (picture : List ℕ) :
   pub drawn : picture
       ≡ picture_text stream plan.graph plan.startup_counts plan.round_counts plan.schedule.sizes
 
+-- the text is accepted, and this is the C of its plan
+pub record HasProgram (text : List ℕ) (choice : Choice) (program : List ℕ) : Type 0 where
+  pub plan : PlanParts
+  pub planned : IsPlanOf text choice plan
+  pub emitted : IsProgramOf plan program
+
+-- the text is accepted, and the arrays of its plan's C would have so many items, more than there may
+-- be
+pub record HasTooManyItems (text : List ℕ) (choice : Choice) (items : ℕ) : Type 0 where
+  pub plan : PlanParts
+  pub planned : IsPlanOf text choice plan
+  pub passes : PassesItemLimit plan items
+
 -- the picture of what so many workers run: of a plan's graph after fission, in boxes of stages and
 -- of fused units
 abbrev pub stages_text : PlanParts → (workers : ℕ) → List ℕ
@@ -119,7 +134,7 @@ IsPictureOf text workers ways fuse main picture =
     HasStagesPicture text (drawn_so ways fuse main) (unwrap_or workers 1) picture
 
 -- an answer is what a command asks of the text: the outcome of its rounds, with its plan, the size
--- of its graph, its plan, or a picture
+-- of its graph, its plan, its C, or a picture
 abbrev pub IsAsked : List ℕ → Command → (bytes : Option (List ℕ)) → Answer → Type 0
 IsAsked text (command.Run rounds workers ways fuse stats main) bytes (answer.Ran plan outcome) =
     IsPlanOf text (chosen main ways fuse) plan
@@ -127,6 +142,8 @@ IsAsked text (command.Run rounds workers ways fuse stats main) bytes (answer.Ran
 IsAsked text (command.Check main) bytes (answer.Checked nodes channels) =
     HasSize text (plain main) nodes channels
 IsAsked text (command.Plan main) bytes (answer.Planned plan) = IsPlanOf text (plain main) plan
+IsAsked text (command.Emit main) bytes (answer.Emitted program) =
+    HasProgram text (plain main) program.items
 IsAsked text (command.Graph workers ways fuse main) bytes (answer.Drawn picture) =
     IsPictureOf text workers ways fuse main picture.items
 IsAsked text _ bytes _ = ⊥
@@ -144,7 +161,8 @@ pub record HasBadWorkers (text : List ℕ) (choice : Choice) (workers : ℕ) : T
   pub bad : ¬ AreWorkers workers
 
 -- a command has no answer, for this reason: the text is refused; a word of its input writes no
--- number; its rounds aren't run, or what would run them isn't drawn
+-- number; its rounds aren't run, or what would run them isn't drawn; or its C would need too large
+-- arrays
 abbrev pub IsStopped : List ℕ → Command → (bytes : Option (List ℕ)) → Stop → Type 0
 IsStopped text command bytes (stop.Refused placed) =
     IsTrueOf text (choice_of command) placed.refusal
@@ -154,20 +172,23 @@ IsStopped text (command.Run rounds workers ways fuse stats main) bytes (stop.Not
     RunsText text (chosen main ways fuse) rounds workers bytes (Err refused)
 IsStopped text (command.Graph workers ways fuse main) bytes (stop.NotRun BadWorkers) =
     HasBadWorkers text (drawn_so ways fuse main) (unwrap_or workers 1)
+IsStopped text (command.Emit main) bytes (stop.ArrayLimit items) =
+    HasTooManyItems text (plain main) items
 IsStopped text _ bytes (stop.NotRun refused) = ⊥
+IsStopped text _ bytes (stop.ArrayLimit items) = ⊥
 
 -- a command is answered, or has no answer; or the input fails, or memory runs out while it is read
 abbrev pub IsAnswered : List ℕ → Command → (bytes : Option (List ℕ))
-    → Result (Result Answer Stop) CliError → Type 0
-IsAnswered text command bytes (Ok (Ok answer)) = IsAsked text command bytes answer
-IsAnswered text command bytes (Ok (Err stop)) = IsStopped text command bytes stop
+    → Result Answer CliError → Type 0
+IsAnswered text command bytes (Ok (answer.Stopped stop)) = IsStopped text command bytes stop
+IsAnswered text command bytes (Ok answer) = IsAsked text command bytes answer
 IsAnswered text command bytes (Err error.Read) = ReadsInput text command
 IsAnswered text command bytes (Err error.Memory) = ReadsInput text command
 IsAnswered text command bytes (Err error.Write) = ⊥
 
 -- a run of a plan is answered, whatever text it is the plan of
 abbrev pub AnswersPlan : PlanParts → (rounds : Option ℕ) → (workers : ℕ)
-    → (bytes : Option (List ℕ)) → Result (Result Answer Stop) CliError → Type 0
+    → (bytes : Option (List ℕ)) → Result Answer CliError → Type 0
 AnswersPlan plan rounds workers bytes result =
     (text : List ℕ) (main : Option (String Global)) (ways fuse : ℕ) (stats : Bool)
     → IsPlanOf text (chosen main ways fuse) plan

@@ -1,5 +1,5 @@
 -- The pictures of a plan, for whatever text it is the plan of.
-use Rattle.std.specs.Prelude.{◌≡◌, ℕ, List, Result, Ok, Err}
+use Rattle.std.specs.Prelude.{◌≡◌, ℕ, List}
 use Rattle.strc_stage_plan.specs.Plans.{PlanParts}
 use Rattle.strc_run_refusal.specs.Placing.{unplaced}
 use Rattle.strc_run_refusal.specs.declared.refusal.Refusal.TheVariants.{NoMemory}
@@ -10,25 +10,22 @@ use Rattle.strc_run.specs.Refuses.{IsTrueOf}
 use Rattle.strc_run.specs.Rounds.{AreWorkers}
 use Rattle.strc_cli.specs.declared.answer.Answer.{Answer}
 use Rattle.strc_cli.specs.declared.answer.Answer.TheVariants as answer
-use Rattle.strc_cli_output.specs.declared.stop.Stop.{Stop}
 use Rattle.strc_cli_output.specs.declared.stop.Stop.TheVariants as stop
 use Rattle.strc_cli.specs.Answering.{HasPicture, stages_text}
 
 -- the plan of this text is drawn, or the text is refused
-abbrev pub IsDrawn : List ℕ → Choice → PlanParts → Result Answer Stop → Type 0
-IsDrawn text choice plan (Ok (answer.Drawn picture)) =
+abbrev pub IsDrawn : List ℕ → Choice → PlanParts → Answer → Type 0
+IsDrawn text choice plan (answer.Drawn picture) =
     IsPlanOf text choice plan → HasPicture text choice picture.items
-IsDrawn text choice plan (Ok _) = ⊥
-IsDrawn text choice plan (Err (stop.Refused placed)) =
+IsDrawn text choice plan (answer.Stopped (stop.Refused placed)) =
     IsTrueOf text choice placed.refusal × (placed ≡ unplaced placed.refusal)
-IsDrawn text choice plan (Err _) = ⊥
+IsDrawn text choice plan _ = ⊥
 
 -- what so many workers run of a plan is drawn; or they can't run it, or memory runs out
-abbrev pub AreStagesDrawn : PlanParts → (workers : ℕ) → Result Answer Stop → Type 0
-AreStagesDrawn plan workers (Ok (answer.Drawn picture)) =
+abbrev pub AreStagesDrawn : PlanParts → (workers : ℕ) → Answer → Type 0
+AreStagesDrawn plan workers (answer.Drawn picture) =
     AreWorkers workers × (picture.items ≡ stages_text plan workers)
-AreStagesDrawn plan workers (Ok _) = ⊥
-AreStagesDrawn plan workers (Err (stop.Refused placed)) =
+AreStagesDrawn plan workers (answer.Stopped (stop.Refused placed)) =
     placed ≡ unplaced NoMemory
-AreStagesDrawn plan workers (Err (stop.NotRun BadWorkers)) = ¬ AreWorkers workers
-AreStagesDrawn plan workers (Err _) = ⊥
+AreStagesDrawn plan workers (answer.Stopped (stop.NotRun BadWorkers)) = ¬ AreWorkers workers
+AreStagesDrawn plan workers _ = ⊥

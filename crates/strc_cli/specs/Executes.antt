@@ -7,7 +7,6 @@ use Rattle.strc_cli.specs.declared.execute.Status.{Status}
 use Rattle.strc_cli.specs.declared.execute.Status.TheVariants as status
 use Rattle.strc_cli.specs.declared.answer.Answer.{Answer}
 use Rattle.strc_cli.specs.declared.answer.Answer.TheVariants as answer
-use Rattle.strc_cli_output.specs.declared.stop.Stop.{Stop}
 use Rattle.strc_cli_output.specs.declared.stop.Stop.TheVariants as stop
 use Rattle.strc_cli_words.specs.declared.line.Command.{Command}
 use Rattle.strc_sched_outcome.specs.declared.outcome.Outcome.TheVariants as outcome
@@ -19,13 +18,14 @@ use Rattle.strc_cli.specs.Answering.{IsAnswered}
 use Rattle.strc_elab_graph.specs.NodeView.{node_names}
 use Rattle.strc_cli_output.specs.Output.{check_line, outcome_text, plan_text, stop_line}
 
--- all that is written: what the run printed, the lines of a plan, a picture, or one line
-abbrev pub answer_text : Result Answer Stop → List ℕ
-answer_text (Ok (answer.Ran plan outcome)) = outcome_text (node_names plan.graph) outcome
-answer_text (Ok (answer.Checked nodes channels)) = check_line nodes channels
-answer_text (Ok (answer.Planned plan)) = plan_text plan
-answer_text (Ok (answer.Drawn picture)) = picture.items
-answer_text (Err stop) = stop_line stop
+-- all that is written: what the run printed, the lines of a plan, a picture, C, or one line
+abbrev pub answer_text : Answer → List ℕ
+answer_text (answer.Ran plan outcome) = outcome_text (node_names plan.graph) outcome
+answer_text (answer.Checked nodes channels) = check_line nodes channels
+answer_text (answer.Planned plan) = plan_text plan
+answer_text (answer.Drawn picture) = picture.items
+answer_text (answer.Emitted program) = program.items
+answer_text (answer.Stopped stop) = stop_line stop
 
 -- the status of a text that is refused
 abbrev pub refusal_status : Refusal → Status
@@ -39,15 +39,17 @@ run_refusal_status unrun.NoWorker = status.NoMemory
 run_refusal_status refused = status.Refused
 
 -- the status that belongs to what is written
-abbrev pub answer_status : Result Answer Stop → Status
-answer_status (Ok (answer.Ran plan (outcome.Done tapes))) = status.Done
-answer_status (Ok (answer.Ran plan (outcome.Fault node firing round cause tapes))) = status.Fault
-answer_status (Ok (answer.Checked nodes channels)) = status.Done
-answer_status (Ok (answer.Planned plan)) = status.Done
-answer_status (Ok (answer.Drawn picture)) = status.Done
-answer_status (Err (stop.Refused placed)) = refusal_status placed.refusal
-answer_status (Err (stop.BadInput word)) = status.Refused
-answer_status (Err (stop.NotRun refused)) = run_refusal_status refused
+abbrev pub answer_status : Answer → Status
+answer_status (answer.Ran plan (outcome.Done tapes)) = status.Done
+answer_status (answer.Ran plan (outcome.Fault node firing round cause tapes)) = status.Fault
+answer_status (answer.Checked nodes channels) = status.Done
+answer_status (answer.Planned plan) = status.Done
+answer_status (answer.Drawn picture) = status.Done
+answer_status (answer.Emitted program) = status.Done
+answer_status (answer.Stopped (stop.Refused placed)) = refusal_status placed.refusal
+answer_status (answer.Stopped (stop.BadInput word)) = status.Refused
+answer_status (answer.Stopped (stop.NotRun refused)) = run_refusal_status refused
+answer_status (answer.Stopped (stop.ArrayLimit items)) = status.Refused
 
 -- the output at one moment: the bytes that it has taken, where they are known, and whether it has
 -- failed
@@ -86,7 +88,7 @@ Writes bytes (Err error.Memory) before after = ⊥
 
 -- how telling an answer went: written whole, with its status; or in part, for a failure of the
 -- device; or not at all
-abbrev pub TellsAnswer : Result Answer Stop → Result Status CliError → Device → Device → Type 0
+abbrev pub TellsAnswer : Answer → Result Status CliError → Device → Device → Type 0
 TellsAnswer answer (Ok status) before after =
     (status ≡ answer_status answer) × Wrote (answer_text answer) before after
 TellsAnswer answer (Err error.Write) before after = FailedIn (answer_text answer) before after
@@ -94,7 +96,7 @@ TellsAnswer answer (Err error.Read) before after = ⊥
 TellsAnswer answer (Err error.Memory) before after = WroteNothing before after
 
 -- an answer is reported, or nothing is written where there is none
-abbrev pub IsReported : Result (Result Answer Stop) CliError → Result Status CliError → Device
+abbrev pub IsReported : Result Answer CliError → Result Status CliError → Device
     → Device
     → Type 0
 IsReported (Ok answer) result before after = TellsAnswer answer result before after
@@ -106,5 +108,5 @@ IsReported (Err failure) result before after = (result ≡ Err failure) × Wrote
 abbrev pub Executes : List ℕ → Command → (bytes : Option (List ℕ)) → Result Status CliError
     → Device → Device → Type 0
 Executes text command bytes result before after =
-    (answer : Result (Result Answer Stop) CliError) × IsAnswered text command bytes answer
+    (answer : Result Answer CliError) × IsAnswered text command bytes answer
     × IsReported answer result before after

@@ -11,7 +11,6 @@ use Rattle.strc_cli.specs.declared.execute.CliError.{CliError}
 use Rattle.strc_cli.specs.declared.execute.CliError.TheVariants as failure
 use Rattle.strc_cli.specs.declared.answer.Answer.{Answer}
 use Rattle.strc_cli.specs.declared.answer.Answer.TheVariants as answer
-use Rattle.strc_cli_output.specs.declared.stop.Stop.{Stop}
 use Rattle.strc_cli_output.specs.declared.stop.Stop.TheVariants as no_answer
 
 -- the input of a graph with a reader, or of one without
@@ -23,16 +22,15 @@ IsInputOf false bytes (Err why) = ⊥
 
 -- how the rounds of a plan are answered by so many workers
 abbrev pub IsRunAnswer : PlanParts → List ℤ → (rounds : Option ℕ) → (workers : ℕ)
-    → Result Answer Stop → Type 0
-IsRunAnswer plan input rounds workers (Ok (answer.Ran own outcome)) =
+    → Answer → Type 0
+IsRunAnswer plan input rounds workers (answer.Ran own outcome) =
     (own ≡ plan) × IsRunOf plan input rounds workers (Ok outcome)
-IsRunAnswer plan input rounds workers (Ok _) = ⊥
-IsRunAnswer plan input rounds workers (Err (no_answer.NotRun refused)) =
+IsRunAnswer plan input rounds workers (answer.Stopped (no_answer.NotRun refused)) =
     IsRunOf plan input rounds workers (Err refused)
-IsRunAnswer plan input rounds workers (Err _) = ⊥
+IsRunAnswer plan input rounds workers _ = ⊥
 
 -- what comes of an input that gives no numbers
-abbrev pub unread : ReadStop → Result (Result Answer Stop) CliError
-unread (stop.BadInput word) = Ok (Err (no_answer.BadInput word))
+abbrev pub unread : ReadStop → Result Answer CliError
+unread (stop.BadInput word) = Ok (answer.Stopped (no_answer.BadInput word))
 unread stop.Failed = Err failure.Read
 unread stop.NoMemory = Err failure.Memory

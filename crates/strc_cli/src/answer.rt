@@ -11,6 +11,7 @@ ghost use Rattle.strc_cli.specs.Input.{IsInputOf, IsRunAnswer};
 
 use crate::execute::CliError;
 use crate::plan_pictures::{drawn, stages_drawn};
+use crate::programs::emitted;
 use std::alloc::{AllocError, Global};
 use std::sync::Wait;
 use std::thread::Threads;
@@ -28,7 +29,7 @@ use strc_run_links::Gate;
 use strc_run_refusal::placed_refusal::PlacedRefusal;
 use strc_stage_steps::Stage;
 
-/// What a command asks of an accepted text.
+/// What a command comes to for a text.
 #[derive(Drop)]
 pub enum Answer {
     /// How its run ended, with the plan that was run.
@@ -39,11 +40,16 @@ pub enum Answer {
     Planned(Plan),
     /// The picture of its flat graph, or of what is run.
     Drawn(Vec<u8>),
+    /// Its C.
+    Emitted(Vec<u8>),
+    /// Nothing that was asked for, for this reason.
+    Stopped(Stop),
 }
 
 /// The answer to a command. A refusal of the text comes before the input is read, and one of the
 /// input before one of the run. The input is read where the text is run and its graph has a reader.
-/// Each step of a stage is the gate's.
+/// Each step of a stage is the gate's. `Read` comes where the input fails, `Memory` where memory
+/// runs out while it is read.
 pub fn answer_to<G: Gate<Stage>, R: Threads + Wait + Sync, I: Source>(
     rt: &R,
     alloc: Global,
@@ -51,7 +57,7 @@ pub fn answer_to<G: Gate<Stage>, R: Threads + Wait + Sync, I: Source>(
     command: &Command,
     input: &mut I,
     gate: &G,
-) -> Result<Result<Answer, Stop>, CliError>
+) -> Result<Answer, CliError>
     ensures answered { IsAnswered text.now command.now (I.remaining input.old) result }
     ensures failed { result ≡ Err CliError.Read → I.has_failed input.new ≡ true }
     ensures steady { result ≢ Err CliError.Read → I.has_failed input.new ≡ I.has_failed input.old }
@@ -62,11 +68,11 @@ pub fn answer_to<G: Gate<Stage>, R: Threads + Wait + Sync, I: Source>(
     // An accepted text isn't refused.
     accepted_or_refused();
     let Ok(options) = options_of(alloc, command) else {
-        return Ok(Err(Stop::Refused(PlacedRefusal::from(Refusal::NoMemory))));
+        return Ok(Answer::Stopped(Stop::Refused(PlacedRefusal::from(Refusal::NoMemory))));
     };
     let plan = match compile_or_where(alloc, text, &options) {
         Ok(plan) => plan,
-        Err(placed) => return Ok(Err(Stop::Refused(placed))),
+        Err(placed) => return Ok(Answer::Stopped(Stop::Refused(placed))),
     };
     match command {
         Command::Run {
@@ -77,11 +83,12 @@ pub fn answer_to<G: Gate<Stage>, R: Threads + Wait + Sync, I: Source>(
             stats: _,
             main: _,
         } => run_plan(rt, alloc, plan, *rounds, *workers, input, gate),
-        Command::Check { main: _ } => Ok(Ok(Answer::Checked {
+        Command::Check { main: _ } => Ok(Answer::Checked {
             nodes: plan.graph().nodes().len(),
             channels: plan.graph().channels().len(),
-        })),
-        Command::Plan { main: _ } => Ok(Ok(Answer::Planned(plan))),
+        }),
+        Command::Plan { main: _ } => Ok(Answer::Planned(plan)),
+        Command::Emit { main: _ } => Ok(emitted(alloc, &plan)),
         Command::Graph {
             workers: None,
             ways: None,
@@ -104,7 +111,7 @@ fn run_plan<G: Gate<Stage>, R: Threads + Wait + Sync, I: Source>(
     workers: u32,
     input: &mut I,
     gate: &G,
-) -> Result<Result<Answer, Stop>, CliError>
+) -> Result<Answer, CliError>
     ensures run { AnswersPlan plan rounds workers (I.remaining input.old)
         result }
     ensures failed { result ≡ Err CliError.Read → I.has_failed input.new ≡ true }
@@ -122,11 +129,11 @@ fn run_plan<G: Gate<Stage>, R: Threads + Wait + Sync, I: Source>(
 }
 
 // What comes of an input that gives no numbers.
-fn unread(stop: ReadStop) -> Result<Result<Answer, Stop>, CliError>
+fn unread(stop: ReadStop) -> Result<Answer, CliError>
     ensures { result ≡ spec.unread stop }
 {
     match stop {
-        ReadStop::BadInput { word } => Ok(Err(Stop::BadInput { word })),
+        ReadStop::BadInput { word } => Ok(Answer::Stopped(Stop::BadInput { word })),
         ReadStop::Failed => Err(CliError::Read),
         ReadStop::NoMemory => Err(CliError::Memory),
     }
@@ -157,12 +164,12 @@ fn run_numbers<G: Gate<Stage>, R: Threads + Wait + Sync>(
     workers: u32,
     input: &[i32],
     gate: &G,
-) -> Result<Answer, Stop>
+) -> Answer
     ensures { IsRunAnswer plan input.now rounds workers result }
 {
     match run(rt, alloc, &plan, input, rounds, workers, gate) {
-        Ok(outcome) => Ok(Answer::Ran(plan, outcome)),
-        Err(refusal) => Err(Stop::NotRun(refusal)),
+        Ok(outcome) => Answer::Ran(plan, outcome),
+        Err(refusal) => Answer::Stopped(Stop::NotRun(refusal)),
     }
 }
 
@@ -198,7 +205,8 @@ fn ways_of(command: &Command) -> u32
     match command {
         Command::Run { ways, .. } => *ways,
         Command::Graph { ways, .. } => ways.unwrap_or(BARE_WAYS),
-        Command::Check { main: _ } | Command::Plan { main: _ } => BARE_WAYS,
+        Command::Check { main: _ } | Command::Plan { main: _ } | Command::Emit { main: _ } =>
+            BARE_WAYS,
     }
 }
 
@@ -209,7 +217,8 @@ fn fuse_of(command: &Command) -> u32
     match command {
         Command::Run { fuse, .. } => *fuse,
         Command::Graph { fuse, .. } => fuse.unwrap_or(BARE_FUSE),
-        Command::Check { main: _ } | Command::Plan { main: _ } => BARE_FUSE,
+        Command::Check { main: _ } | Command::Plan { main: _ } | Command::Emit { main: _ } =>
+            BARE_FUSE,
     }
 }
 
@@ -221,6 +230,7 @@ pub fn main_name(command: &Command) -> Option<&str>
         Command::Run { main, .. } => main,
         Command::Check { main } => main,
         Command::Plan { main } => main,
+        Command::Emit { main } => main,
         Command::Graph { main, .. } => main,
     };
     match main {

@@ -84,78 +84,77 @@ pub fn execute<G: Gate<Stage>, R: Threads + Wait + Sync, I: Source, O: Sink>(
     ensures unread { (input.new ≡ input.old) ⊎ ReadsInput text.now command.now }
 {
     match answer_to(rt, alloc, text, command, input, gate) {
-        Ok(answered) => tell(alloc, &answered, output),
+        Ok(answer) => tell(alloc, &answer, output),
         Err(failure) => Err(failure),
     }
 }
 
 /// Writes what is reported of an answer.
-pub fn tell<O: Sink>(
-    alloc: Global,
-    answered: &Result<Answer, Stop>,
-    output: &mut O,
-) -> Result<Status, CliError>
-    ensures { TellsAnswer answered.now result (device_of (O.contents output.old)
+pub fn tell<O: Sink>(alloc: Global, answer: &Answer, output: &mut O) -> Result<Status, CliError>
+    ensures { TellsAnswer answer.now result (device_of (O.contents output.old)
         (O.has_failed output.old))
         (device_of (O.contents output.new) (O.has_failed output.new)) }
 {
-    if let Some(line) = memory_line(answered) {
+    if let Some(line) = memory_line(answer) {
         write_all(output, line)?;
         return Ok(Status::NoMemory);
     }
-    let Ok(text) = answer_text(alloc, answered) else {
+    let Ok(text) = answer_text(alloc, answer) else {
         return Err(CliError::Memory);
     };
     write_all(output, &text)?;
-    Ok(answer_status(answered))
+    Ok(answer_status(answer))
 }
 
 // The line that reports out of memory, which takes none.
-fn memory_line(answered: &Result<Answer, Stop>) -> Option<&'static [u8]>
-    ensures { IfSome result (λ line. (line.now ≡ spec.answer_text answered.now)
-        × (spec.answer_status answered.now ≡ Status.NoMemory)) }
+fn memory_line(answer: &Answer) -> Option<&'static [u8]>
+    ensures { IfSome result (λ line. (line.now ≡ spec.answer_text answer.now)
+        × (spec.answer_status answer.now ≡ Status.NoMemory)) }
 {
-    match answered {
-        Err(Stop::Refused(placed)) => match &placed.refusal {
+    match answer {
+        Answer::Stopped(Stop::Refused(placed)) => match &placed.refusal {
             Refusal::NoMemory => Some(b"refused E25 NoMemory\n"),
             _ => None,
         },
-        Err(Stop::NotRun(RunRefusal::NoMemory)) => Some(b"refused S3 NoMemory\n"),
+        Answer::Stopped(Stop::NotRun(RunRefusal::NoMemory)) => Some(b"refused S3 NoMemory\n"),
         _ => None,
     }
 }
 
 // The text of an answer.
-fn answer_text(alloc: Global, answered: &Result<Answer, Stop>) -> Result<Vec<u8>, AllocError>
-    ensures { IfOk result (λ text. text.items ≡ spec.answer_text answered.now) }
+fn answer_text(alloc: Global, answer: &Answer) -> Result<Vec<u8>, AllocError>
+    ensures { IfOk result (λ text. text.items ≡ spec.answer_text answer.now) }
 {
-    match answered {
-        Ok(Answer::Ran(plan, outcome)) => outcome_text(alloc, plan.graph(), outcome),
-        Ok(Answer::Checked { nodes, channels }) => check_text(alloc, *nodes, *channels),
-        Ok(Answer::Planned(plan)) => plan_text(alloc, plan),
-        Ok(Answer::Drawn(picture)) => picture.to_vec(alloc),
-        Err(stop) => stop_text(alloc, stop),
+    match answer {
+        Answer::Ran(plan, outcome) => outcome_text(alloc, plan.graph(), outcome),
+        Answer::Checked { nodes, channels } => check_text(alloc, *nodes, *channels),
+        Answer::Planned(plan) => plan_text(alloc, plan),
+        Answer::Drawn(picture) => picture.to_vec(alloc),
+        Answer::Emitted(program) => program.to_vec(alloc),
+        Answer::Stopped(stop) => stop_text(alloc, stop),
     }
 }
 
 // The status of an answer.
-fn answer_status(answered: &Result<Answer, Stop>) -> Status
-    ensures { result ≡ spec.answer_status answered.now }
+fn answer_status(answer: &Answer) -> Status
+    ensures { result ≡ spec.answer_status answer.now }
 {
-    match answered {
-        Ok(Answer::Ran(_, Outcome::Done(_))) => Status::Done,
-        Ok(Answer::Ran(_, Outcome::Fault { .. })) => Status::Fault,
-        Ok(Answer::Checked { .. }) => Status::Done,
-        Ok(Answer::Planned(_)) => Status::Done,
-        Ok(Answer::Drawn(_)) => Status::Done,
-        Err(Stop::Refused(placed)) => match &placed.refusal {
+    match answer {
+        Answer::Ran(_, Outcome::Done(_)) => Status::Done,
+        Answer::Ran(_, Outcome::Fault { .. }) => Status::Fault,
+        Answer::Checked { .. } => Status::Done,
+        Answer::Planned(_) => Status::Done,
+        Answer::Drawn(_) => Status::Done,
+        Answer::Emitted(_) => Status::Done,
+        Answer::Stopped(Stop::Refused(placed)) => match &placed.refusal {
             Refusal::NoMemory => Status::NoMemory,
             _ => Status::Refused,
         },
-        Err(Stop::BadInput { .. }) => Status::Refused,
-        Err(Stop::NotRun(RunRefusal::NoMemory)) => Status::NoMemory,
-        Err(Stop::NotRun(RunRefusal::NoWorker)) => Status::NoMemory,
-        Err(Stop::NotRun(_)) => Status::Refused,
+        Answer::Stopped(Stop::BadInput { .. }) => Status::Refused,
+        Answer::Stopped(Stop::NotRun(RunRefusal::NoMemory)) => Status::NoMemory,
+        Answer::Stopped(Stop::NotRun(RunRefusal::NoWorker)) => Status::NoMemory,
+        Answer::Stopped(Stop::NotRun(_)) => Status::Refused,
+        Answer::Stopped(Stop::ArrayLimit { .. }) => Status::Refused,
     }
 }
 

@@ -12,7 +12,9 @@ use std::alloc::Global;
 use std::sync::Wait;
 use std::thread::Threads;
 use strc_cli_input::device::{Sink, Source};
-use strc_cli_messages::fault::{FaultSite, bad_input_message, fault_message, not_run_message};
+use strc_cli_messages::fault::{
+    FaultSite, array_limit_message, bad_input_message, fault_message, not_run_message,
+};
 use strc_cli_messages::refusal::refusal_message;
 use strc_cli_output::stop::Stop;
 use strc_cli_words::line::Command;
@@ -58,10 +60,10 @@ pub fn execute_explained<G: Gate<Stage>, R: Threads + Wait + Sync, I: Source, O:
         (device_of (O.contents output.new) (O.has_failed output.new)) }
 {
     match answer_to(rt, alloc, text, command, input, gate) {
-        Ok(answered) => Explained {
-            result: tell(alloc, &answered, output),
-            message: message_of(alloc, file, text, main_name(command), &answered),
-            plan: plan_of(answered),
+        Ok(answer) => Explained {
+            result: tell(alloc, &answer, output),
+            message: message_of(alloc, file, text, main_name(command), &answer),
+            plan: plan_of(answer),
         },
         Err(failure) => Explained {
             result: Err(failure),
@@ -72,9 +74,9 @@ pub fn execute_explained<G: Gate<Stage>, R: Threads + Wait + Sync, I: Source, O:
 }
 
 // The plan that was run, where one was.
-fn plan_of(answered: Result<Answer, Stop>) -> Option<Plan> {
-    match answered {
-        Ok(Answer::Ran(plan, _)) => Some(plan),
+fn plan_of(answer: Answer) -> Option<Plan> {
+    match answer {
+        Answer::Ran(plan, _) => Some(plan),
         _ => None,
     }
 }
@@ -85,12 +87,12 @@ fn message_of(
     file: &str,
     text: &[u8],
     main: Option<&str>,
-    answered: &Result<Answer, Stop>,
+    answer: &Answer,
 ) -> Vec<u8>
-    ensures { MayTellOf file.now text.now (option_map (λ m. m.now) main.entry) answered.now
+    ensures { MayTellOf file.now text.now (option_map (λ m. m.now) main.entry) answer.now
         result.items }
 {
-    match explanation(alloc, file, text, main, answered) {
+    match explanation(alloc, file, text, main, answer) {
         Ok(message) => message,
         Err(NoMemory) => Vec::new(alloc),
     }
@@ -101,26 +103,25 @@ fn explanation(
     file: &str,
     text: &[u8],
     main: Option<&str>,
-    answered: &Result<Answer, Stop>,
+    answer: &Answer,
 ) -> Result<Vec<u8>, NoMemory>
     ensures { IfOk result (λ message. TellsOf file.now text.now
-        (option_map (λ m. m.now) main.entry) answered.now message.items) }
+        (option_map (λ m. m.now) main.entry) answer.now message.items) }
 {
-    match answered {
-        Err(Stop::Refused(placed)) => refusal_message(alloc, file, text, main, placed),
-        Err(Stop::BadInput { word }) => bad_input_message(alloc, *word),
-        Err(Stop::NotRun(refusal)) => not_run_message(alloc, file, *refusal),
-        Ok(
-            Answer::Ran(
-                plan,
-                Outcome::Fault {
-                    node,
-                    firing,
-                    round,
-                    cause,
-                    tapes: _,
-                },
-            ),
+    match answer {
+        Answer::Stopped(Stop::Refused(placed)) => refusal_message(alloc, file, text, main, placed),
+        Answer::Stopped(Stop::BadInput { word }) => bad_input_message(alloc, *word),
+        Answer::Stopped(Stop::NotRun(refusal)) => not_run_message(alloc, file, *refusal),
+        Answer::Stopped(Stop::ArrayLimit { items }) => array_limit_message(alloc, file, *items),
+        Answer::Ran(
+            plan,
+            Outcome::Fault {
+                node,
+                firing,
+                round,
+                cause,
+                tapes: _,
+            },
         ) => {
             let site = FaultSite {
                 node: *node,
@@ -130,6 +131,6 @@ fn explanation(
             };
             fault_message(alloc, file, text, main, plan.graph(), site)
         }
-        Ok(_) => Ok(Vec::new(alloc)),
+        _ => Ok(Vec::new(alloc)),
     }
 }

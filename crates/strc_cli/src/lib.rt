@@ -14,6 +14,7 @@ pub mod answer;
 pub mod execute;
 pub mod explanation;
 mod plan_pictures;
+mod programs;
 
 pub use strc_cli_input::device;
 pub use strc_cli_words::{line, words};

@@ -18,17 +18,12 @@ use strc_run_refusal::placed_refusal::PlacedRefusal;
 use strc_stage_plan::bounds::stage_bounds;
 
 /// The picture of the flat graph of a text's plan.
-pub(crate) fn drawn(
-    alloc: Global,
-    text: &[u8],
-    options: &Options,
-    plan: &Plan,
-) -> Result<Answer, Stop>
+pub(crate) fn drawn(alloc: Global, text: &[u8], options: &Options, plan: &Plan) -> Answer
     ensures { IsDrawn text.now (choices.choice_of options.now) plan.now result }
 {
     let stream = match stream_of(alloc, text, options) {
         Ok(stream) => stream,
-        Err(refusal) => return Err(Stop::Refused(PlacedRefusal::from(refusal))),
+        Err(refusal) => return Answer::Stopped(Stop::Refused(PlacedRefusal::from(refusal))),
     };
     match picture(
         alloc,
@@ -38,22 +33,22 @@ pub(crate) fn drawn(
         plan.round_counts().as_slice(),
         plan.sizes(),
     ) {
-        Ok(picture) => Ok(Answer::Drawn(picture)),
-        Err(_) => Err(Stop::Refused(PlacedRefusal::from(Refusal::NoMemory))),
+        Ok(picture) => Answer::Drawn(picture),
+        Err(_) => Answer::Stopped(Stop::Refused(PlacedRefusal::from(Refusal::NoMemory))),
     }
 }
 
 /// The picture of what so many workers run of a plan. `BadWorkers` comes where their number isn't
 /// one from 1 to 64.
-pub(crate) fn stages_drawn(alloc: Global, plan: &Plan, workers: u32) -> Result<Answer, Stop>
+pub(crate) fn stages_drawn(alloc: Global, plan: &Plan, workers: u32) -> Answer
     ensures { AreStagesDrawn plan.now workers result }
 {
     if workers == 0 || workers > WORKER_LIMIT {
-        return Err(Stop::NotRun(RunRefusal::BadWorkers));
+        return Answer::Stopped(Stop::NotRun(RunRefusal::BadWorkers));
     }
     match stages_picture(alloc, plan, workers) {
-        Ok(picture) => Ok(Answer::Drawn(picture)),
-        Err(_) => Err(Stop::Refused(PlacedRefusal::from(Refusal::NoMemory))),
+        Ok(picture) => Answer::Drawn(picture),
+        Err(_) => Answer::Stopped(Stop::Refused(PlacedRefusal::from(Refusal::NoMemory))),
     }
 }
 

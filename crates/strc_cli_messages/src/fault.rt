@@ -220,3 +220,15 @@ pub fn bad_input_message(alloc: Global, word: u64) -> Result<Vec<u8>, NoMemory>
     message.add(b" (the first one is word 0) is no number from -2147483648 to 2147483647")?;
     Ok(message.end(alloc, "standard input", b"", None)?)
 }
+
+/// What a person reads where a program's C would need arrays for so many items, too many.
+pub fn array_limit_message(alloc: Global, file: &str, items: u64) -> Result<Vec<u8>, NoMemory>
+    ensures { IfOk result (λ message. IsMessage file.now [] message.items) }
+{
+    let mut message = Message::new(alloc);
+    message.add(b"the arrays of its C would have ")?;
+    message.number(items)?;
+    message.add(b" items, more than 268435456: a round moves too many")?;
+    let told = message.end(alloc, file, b"", None)?;
+    Ok(told)
+}

@@ -211,6 +211,7 @@ abbrev pub stop_words : Stop → List ℕ
 stop_words (stop.Refused placed) = refusal_words placed.refusal
 stop_words (stop.BadInput word) = codes "S6 BadInput" ++ codes " word " ++ decimal word
 stop_words (stop.NotRun refused) = run_refusal_words refused
+stop_words (stop.ArrayLimit items) = codes "S7 ArrayLimit" ++ codes " items " ++ decimal items
 
 -- `refused E1 Lex at 12`, `refused S1 InputShort need 6 got 5`
 abbrev pub stop_line : Stop → List ℕ

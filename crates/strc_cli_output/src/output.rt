@@ -158,6 +158,7 @@ fn push_stop(text: &mut Vec<u8>, stop: &Stop) -> Result<(), AllocError>
         Stop::Refused(placed) => push_refusal(text, &placed.refusal),
         Stop::BadInput { word } => push_field(text, b"S6 BadInput", b" word ", *word),
         Stop::NotRun(refusal) => push_run_refusal(text, *refusal),
+        Stop::ArrayLimit { items } => push_field(text, b"S7 ArrayLimit", b" items ", *items),
     }
 }
 

@@ -12,4 +12,6 @@ pub enum Stop {
     BadInput { word: u64 },
     /// The text is accepted, and isn't run.
     NotRun(RunRefusal),
+    /// The text is accepted, and its C would need arrays for so many items.
+    ArrayLimit { items: u64 },
 }

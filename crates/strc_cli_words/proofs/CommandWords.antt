@@ -50,9 +50,11 @@ within_known name rows (command.Run rounds workers ways fuse stats main) (inr (i
 within_known name rows (command.Run rounds workers ways fuse stats main)
     (inr (inr (inl other))) is = cc
 within_known name rows (command.Run rounds workers ways fuse stats main)
-    (inr (inr (inr (other, sharing)))) is = cc
+    (inr (inr (inr (inl other)))) is = cc
+within_known name rows (command.Run rounds workers ways fuse stats main)
+    (inr (inr (inr (inr (other, sharing))))) is = cc
 within_known name rows (command.Graph workers ways fuse main)
-    (inr (inr (inr (graph, sharing)))) is = (
+    (inr (inr (inr (inr (graph, sharing))))) is = (
       given 1 most_ways (one_of (codes "ways") rows) sharing.few ways is.2,
       short fuse (given 0 most_fused (one_of (codes "fuse") rows) sharing.short fuse is.3),
     )
@@ -60,8 +62,10 @@ within_known name rows (command.Graph workers ways fuse main) (inl (other, numbe
 within_known name rows (command.Graph workers ways fuse main) (inr (inl other)) is =
     absurd (not_check name is.0 other)
 within_known name rows (command.Graph workers ways fuse main) (inr (inr (inl other))) is = cc
+within_known name rows (command.Graph workers ways fuse main) (inr (inr (inr (inl other)))) is = cc
 within_known name rows (command.Check main) known is = tt
 within_known name rows (command.Plan main) known is = tt
+within_known name rows (command.Emit main) known is = tt
 
 within : (met : Option (Text × List Row)) (line : Line) → IsCommand met → IsLineIn met line
     → AreWithin line.command

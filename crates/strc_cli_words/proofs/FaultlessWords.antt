@@ -35,7 +35,7 @@ use Rattle.clap.specs.declared.builder.value_parser.Reading.{Reading}
 use Rattle.clap.specs.declared.builder.value_parser.ValueParser.TheVariants.{Signed}
 use Rattle.strc_cli_words.specs.Lines.{HasSharing, IsBetween, IsCommand, IsNumber, Writes32}
 use Rattle.strc_cli_words.specs.Lines.{WritesBetween, check_app, faults, graph_app, most_fused}
-use Rattle.strc_cli_words.specs.Lines.{most_ways, plan_app, run_app, strc_app}
+use Rattle.strc_cli_words.specs.Lines.{emit_app, most_ways, plan_app, run_app, strc_app}
 use Rattle.strc_cli_words.proofs.FaultlessRows.{none_first, none_second, Each, find_each, IsGood}
 use Rattle.strc_cli_words.proofs.FaultlessRows.{HasPlainDefault, IsPlainRule, IsRead, IsValueFor}
 use Rattle.strc_cli_words.proofs.FaultlessRows.{TakesText, any_value, defaults_good, settled_good}
@@ -47,7 +47,8 @@ use Rattle.strc_cli_words.proofs.FaultlessRows.{takes_entries, takes_number, tak
 abbrev IsName : Text → Type 0
 IsName name =
     (name ≡ codes "run")
-    ⊎ ((name ≡ codes "check") ⊎ ((name ≡ codes "plan") ⊎ (name ≡ codes "graph")))
+    ⊎ ((name ≡ codes "check") ⊎ ((name ≡ codes "plan")
+    ⊎ ((name ≡ codes "emit") ⊎ (name ≡ codes "graph"))))
 
 abbrev StopsAtName : Option (Text × List Text) → Type 0
 StopsAtName stopped = IfSome stopped (λ p. IsName p.0)
@@ -98,29 +99,31 @@ names = names_of (built strc_app)
 abbrev top : Shape
 top = (built strc_app).top
 
--- a subcommand that is met and has no fault is one of the four: `help` has a fault
+-- a subcommand that is met and has no fault is one of the five: `help` has a fault
 met_name : (waiting : Waiting) (word name : Text) (kept : Held)
     → subcommand_met names waiting word ≡ Some name
     → other_fault top (Some name) word kept ≡ [] → IsName name
 met_name walking.idle word name kept met none =
     go (answers_to word (codes "run", [])) (answers_to word (codes "check", []))
-    (answers_to word (codes "plan", [])) (answers_to word (codes "graph", []))
-    (answers_to word (codes "help", [])) met none
+    (answers_to word (codes "plan", [])) (answers_to word (codes "emit", []))
+    (answers_to word (codes "graph", [])) (answers_to word (codes "help", [])) met none
   where
-    go : (is_run is_check is_plan is_graph is_help : Bool)
+    go : (is_run is_check is_plan is_emit is_graph is_help : Bool)
         → option_map {T = Text × List Text} (λ s. s.0)
         (cond is_run (Some (codes "run", [])) (cond is_check (Some (codes "check", []))
-        (cond is_plan (Some (codes "plan", [])) (cond is_graph (Some (codes "graph", []))
-        (cond is_help (Some (codes "help", [])) None))))) ≡ Some name
+        (cond is_plan (Some (codes "plan", [])) (cond is_emit (Some (codes "emit", []))
+        (cond is_graph (Some (codes "graph", []))
+        (cond is_help (Some (codes "help", [])) None)))))) ≡ Some name
         → other_fault top (Some name) word kept ≡ [] → IsName name
-    go true is_check is_plan is_graph is_help met none = inl cc
-    go false true is_plan is_graph is_help met none = inr (inl cc)
-    go false false true is_graph is_help met none = inr (inr (inl cc))
-    go false false false true is_help met none = inr (inr (inr cc))
-    go false false false false true met none =
+    go true is_check is_plan is_emit is_graph is_help met none = inl cc
+    go false true is_plan is_emit is_graph is_help met none = inr (inl cc)
+    go false false true is_emit is_graph is_help met none = inr (inr (inl cc))
+    go false false false true is_graph is_help met none = inr (inr (inr (inl cc)))
+    go false false false false true is_help met none = inr (inr (inr (inr cc)))
+    go false false false false false true met none =
         let is : name ≡ codes "help" = cc in
         let bad = subst (λ (n : Text). other_fault top (Some n) word kept ≡ []) is none in cc
-    go false false false false false met none = cc
+    go false false false false false false met none = cc
 met_name (walking.option id) word name kept met none = cc
 met_name walking.positional word name kept met none = cc
 
@@ -317,7 +320,7 @@ default_graph : Each HasPlainDefault (shape_of graph_app).rules
 default_graph =
     (inl refl, (inl refl, (inl refl, (inl refl, (inl refl, (inl refl, tt))))))
 
--- the words of `check` and `plan` have these rules
+-- the words of `check`, `plan` and `emit` have these rules
 abbrev other_rules : List Rule
 other_rules = (shape_of check_app).rules
 
@@ -558,6 +561,22 @@ plans words none =
       file = given_file rows good (file_given (is_given (codes "FILE") rows) faultless.checks);
     }
 
+-- those after `emit`
+emits : (words : List Text) → level_fault (shape_of emit_app) [] nothing_held words false [] ≡ []
+    → IsCommand (Some (codes "emit", rows_after (shape_of emit_app).rules [] words))
+emits words none =
+    let emit = shape_of emit_app in
+    let faultless = faultless_level emit [] words false [] none in
+    let rows = rows_after emit.rules [] words in
+    let good = rows_good emit plain_other default_other refl words faultless in
+    record {
+      name = codes "emit";
+      rows = rows;
+      is = refl;
+      known = inr (inr (inr (inl refl)));
+      file = given_file rows good (file_given (is_given (codes "FILE") rows) faultless.checks);
+    }
+
 -- those after `graph`
 graphs : (words : List Text) → level_fault (shape_of graph_app) [] nothing_held words false [] ≡ []
     → IsCommand (Some (codes "graph", rows_after (shape_of graph_app).rules [] words))
@@ -570,7 +589,7 @@ graphs words none =
       name = codes "graph";
       rows = rows;
       is = refl;
-      known = inr (inr (inr (refl, sharing_read rows good)));
+      known = inr (inr (inr (inr (refl, sharing_read rows good))));
       file = given_file rows good (file_given (is_given (codes "FILE") rows) faultless.checks);
     }
 
@@ -584,7 +603,8 @@ enters_name : (words : List Text) (name : Text) → IsName name → Enters words
 enters_name words name (inl is) = subst (Enters words) (sym is) (runs words)
 enters_name words name (inr (inl is)) = subst (Enters words) (sym is) (checks words)
 enters_name words name (inr (inr (inl is))) = subst (Enters words) (sym is) (plans words)
-enters_name words name (inr (inr (inr is))) = subst (Enters words) (sym is) (graphs words)
+enters_name words name (inr (inr (inr (inl is)))) = subst (Enters words) (sym is) (emits words)
+enters_name words name (inr (inr (inr (inr is)))) = subst (Enters words) (sym is) (graphs words)
 
 -- words that have no fault enter a subcommand
 enters : (stopped : Option (Text × List Text)) → StopsAtName stopped

@@ -68,7 +68,8 @@ pub no_numbers : (name : Text) (rows : List Row) → name ≡ codes "run" → (H
 no_numbers name rows run none (inl (is, numbers)) = none numbers
 no_numbers name rows run none (inr (inl is)) = cc
 no_numbers name rows run none (inr (inr (inl is))) = cc
-no_numbers name rows run none (inr (inr (inr (is, sharing)))) = cc
+no_numbers name rows run none (inr (inr (inr (inl is)))) = cc
+no_numbers name rows run none (inr (inr (inr (inr (is, sharing))))) = cc
 
 -- nor is `graph`, which is not `check`
 pub not_check : (name : Text) → name ≡ codes "graph" → name ≡ codes "check" → ⊥
@@ -80,7 +81,8 @@ pub no_sharing : (name : Text) (rows : List Row) → name ≡ codes "graph" → 
 no_sharing name rows graph none (inl (is, numbers)) = cc
 no_sharing name rows graph none (inr (inl is)) = not_check name graph is
 no_sharing name rows graph none (inr (inr (inl is))) = cc
-no_sharing name rows graph none (inr (inr (inr (is, sharing)))) = none sharing
+no_sharing name rows graph none (inr (inr (inr (inl is)))) = cc
+no_sharing name rows graph none (inr (inr (inr (inr (is, sharing))))) = none sharing
 
 -- a number that is given, or the one in its place
 pub number_or : (absent : ℕ) (text : Option Text) (given : Option ℕ) → IsNumberOf text given

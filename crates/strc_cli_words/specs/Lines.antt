@@ -1,6 +1,6 @@
 -- What the words of a command line ask for. After the program's name they are
 -- `run FILE [--rounds N] [--workers N] [--ways N] [--fuse N] [--stats] [--main NAME]`,
--- `check FILE [--main NAME]`, `plan FILE [--main NAME]` or
+-- `check FILE [--main NAME]`, `plan FILE [--main NAME]`, `emit FILE [--main NAME]` or
 -- `graph FILE [--workers N] [--ways N] [--fuse N] [--main NAME]`, and are read as the crate `clap`
 -- reads the words of a command: `strc_app` describes ours.
 use Rattle.std.specs.Prelude.{◌≡◌, ◌⊎◌, ◌↔◌, ℕ, ◌<◌, ◌≤◌, ◌^◌, pos, Bool, true, false, List, []}
@@ -26,6 +26,7 @@ abbrev pub main_of : Command → Option (List ℕ)
 main_of (command.Run rounds workers ways fuse stats main) = option_map string_bytes main
 main_of (command.Check main) = option_map string_bytes main
 main_of (command.Plan main) = option_map string_bytes main
+main_of (command.Emit main) = option_map string_bytes main
 main_of (command.Graph workers ways fuse main) = option_map string_bytes main
 
 -- without words the text comes from standard input, and five rounds are run by one worker, whose
@@ -98,6 +99,10 @@ check_app = with_rule (with_rule (new_app (codes "check")) file_rule) main_rule
 abbrev pub plan_app : App
 plan_app = with_rule (with_rule (new_app (codes "plan")) file_rule) main_rule
 
+-- the words of `emit`
+abbrev pub emit_app : App
+emit_app = with_rule (with_rule (new_app (codes "emit")) file_rule) main_rule
+
 -- the words of `graph`
 abbrev pub graph_app : App
 graph_app = with_rule (with_sharing (with_rule (new_app (codes "graph")) file_rule)) main_rule
@@ -107,8 +112,8 @@ abbrev pub strc_app : App
 strc_app =
     let strc = on_top (λ shape. record shape { subcommand_required = true })
     (new_app (codes "strc")) in
-    with_subcommand (with_subcommand (with_subcommand (with_subcommand strc run_app.top)
-    check_app.top) plan_app.top) graph_app.top
+    with_subcommand (with_subcommand (with_subcommand (with_subcommand (with_subcommand strc
+    run_app.top) check_app.top) plan_app.top) emit_app.top) graph_app.top
 
 -- decimal digits, with a plus sign before them or none, that write this number of 32 bits
 abbrev pub Writes32 : Text → ℕ → Type 0
@@ -155,6 +160,7 @@ IsCommandOf name rows (command.Run rounds workers ways fuse stats main) =
     × IsNumberOr 0 (one_of (codes "fuse") rows) fuse × IsFlagOf (one_of (codes "stats") rows) stats
 IsCommandOf name rows (command.Check main) = name ≡ codes "check"
 IsCommandOf name rows (command.Plan main) = name ≡ codes "plan"
+IsCommandOf name rows (command.Emit main) = name ≡ codes "emit"
 IsCommandOf name rows (command.Graph workers ways fuse main) =
     (name ≡ codes "graph") × IsNumberOf (one_of (codes "workers") rows) workers
     × IsNumberOf (one_of (codes "ways") rows) ways × IsNumberOf (one_of (codes "fuse") rows) fuse
@@ -191,12 +197,12 @@ AreWithin (command.Graph workers ways fuse main) =
     IfSome ways (IsBetween 1 most_ways) × IfSome fuse (λ entries. entries ≤ most_fused)
 AreWithin command = Unit {0}
 
--- the name is that of a subcommand: `run` or `graph`, with their numbers, `check` or `plan`
+-- the name is that of a subcommand: `run` or `graph`, with their numbers, `check`, `plan` or `emit`
 abbrev pub IsKnown : Text → List Row → Type 0
 IsKnown name rows =
     ((name ≡ codes "run") × HasNumbers rows)
-    ⊎ ((name ≡ codes "check") ⊎ ((name ≡ codes "plan")
-    ⊎ ((name ≡ codes "graph") × HasSharing rows)))
+    ⊎ ((name ≡ codes "check") ⊎ ((name ≡ codes "plan") ⊎ ((name ≡ codes "emit")
+    ⊎ ((name ≡ codes "graph") × HasSharing rows))))
 
 -- one of the subcommands was met, with a FILE
 pub record IsCommand (met : Option (Text × List Row)) : Type 0 where

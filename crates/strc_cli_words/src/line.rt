@@ -32,6 +32,11 @@ pub enum Command {
         /// The name of the main stream, where one is given.
         main: Option<String>,
     },
+    /// Write the program as C.
+    Emit {
+        /// The name of the main stream, where one is given.
+        main: Option<String>,
+    },
     /// Draw the program's flat graph, as a text for Graphviz; or the graph and the stages that run,
     /// where one of the three numbers is given.
     Graph {

@@ -12,7 +12,7 @@ ghost use Rattle.strc_cli_words.specs.Lines.{IsCommandOf, IsFlagOf, IsKnown, IsL
 ghost use Rattle.strc_cli_words.specs.Lines.{IsNumberOf, check_app, default_line, fault_by, faults};
 ghost use Rattle.strc_cli_words.specs.Lines.{file_rule, fuse_rule, graph_app, main_of, main_rule};
 ghost use Rattle.strc_cli_words.specs.Lines.{number_rule, plan_app, rounds_app, rounds_rule};
-ghost use Rattle.strc_cli_words.specs.Lines.{run_app};
+ghost use Rattle.strc_cli_words.specs.Lines.{emit_app, run_app};
 ghost use Rattle.strc_cli_words.specs.Lines.{stats_rule, strc_app, ways_rule, with_sharing};
 ghost use Rattle.strc_cli_words.specs.Lines.{workers_rule};
 
@@ -111,12 +111,13 @@ fn parser<'a>(alloc: Global) -> Result<clap::Command<'a>, AllocError>
 // The words of each subcommand.
 fn subcommands<'a>(alloc: Global) -> Result<Vec<clap::Command<'a>>, AllocError>
     ensures { IfOk result (λ all. map app_of all.items
-        ≡ run_app ∷ check_app ∷ plan_app ∷ graph_app ∷ []) }
+        ≡ run_app ∷ check_app ∷ plan_app ∷ emit_app ∷ graph_app ∷ []) }
 {
     let run = with_last(Ok(Vec::new(alloc)), run_command(alloc));
     let check = with_last(run, check_command(alloc));
     let plan = with_last(check, plan_command(alloc));
-    with_last(plan, graph_command(alloc))
+    let emit = with_last(plan, emit_command(alloc));
+    with_last(emit, graph_command(alloc))
 }
 
 // The items and one more, where there are both. For any type, so that what is dropped where one is
@@ -182,6 +183,14 @@ fn plan_command<'a>(alloc: Global) -> Result<clap::Command<'a>, AllocError>
 {
     let about = "Tells how often each node of a StreamIt program fires";
     main_command(alloc, "plan", about)
+}
+
+// The words `emit FILE [--main NAME]`.
+fn emit_command<'a>(alloc: Global) -> Result<clap::Command<'a>, AllocError>
+    ensures app { IfOk result (λ emit. app_of emit ≡ emit_app) }
+    ensures local { IfOk result (λ emit. (fields_of emit).has_globals ≡ false) }
+{
+    main_command(alloc, "emit", "Writes a StreamIt program as C")
 }
 
 // The words `graph FILE [--workers N] [--ways N] [--fuse N] [--main NAME]`.
@@ -326,6 +335,7 @@ fn command_of(name: &str, found: &ArgMatches, main: Option<String>) -> Result<Co
         "run" => run_of(found, main),
         "check" => Ok(Command::Check { main }),
         "plan" => Ok(Command::Plan { main }),
+        "emit" => Ok(Command::Emit { main }),
         "graph" => graph_of(found, main),
         _ => Err(LineFault::Words),
     }

@@ -26,6 +26,7 @@ fn reported(alloc: Global, line: &Line) -> Result<String, AllocError> {
         }
         Command::Check { main } => format!(in alloc; "check {file} {}", name_of(main)),
         Command::Plan { main } => format!(in alloc; "plan {file} {}", name_of(main)),
+        Command::Emit { main } => format!(in alloc; "emit {file} {}", name_of(main)),
         Command::Graph {
             workers,
             ways,
@@ -84,6 +85,8 @@ strc check a.str => check a.str -
 strc check a.str --main M => check a.str M
 strc plan a.str => plan a.str -
 strc plan --main=M a.str => plan a.str M
+strc emit a.str => emit a.str -
+strc emit --main=M a.str => emit a.str M
 strc graph a.str => graph a.str - - - -
 strc graph a.str --main M => graph a.str - - - M
 strc graph --workers 0 a.str => graph a.str 0 - - -
@@ -133,6 +136,9 @@ strc run a.str --ways -1
 strc run a.str --ways many
 strc run a.str --ways
 strc run a.str --ways 2 --ways 2
+strc emit
+strc emit a.str --rounds 2
+strc emit a.str b.str
 strc check
 strc check a.str --rounds 2
 strc check a.str --workers 2

@@ -1,4 +1,4 @@
-use Rattle.std.proofs.Common.{false, length, ap, subst, sym, inl, inr}
+use Rattle.std.proofs.Common.{false, length, ap, subst, sym, inl, inr, Ok}
 use Rattle.strc_run.specs.Located.{IsLocated}
 use Rattle.strc_run.specs.Plans.{IsPlanOf}
 use Rattle.strc_cli.specs.Answering.{choice_of, HasSize, IsAsked, IsAnswered, ReadsInput}
@@ -7,6 +7,7 @@ use Rattle.strc_cli.specs.Drawing.{IsDrawn}
 use Rattle.strc_cli.specs.declared.answer.Answer.TheVariants as answer
 use Rattle.strc_cli_words.specs.declared.line.Command.{Command}
 use Rattle.strc_cli.proofs.PlanAnswers.{plan_size, reads_text, same_choice}
+use Rattle.strc_cli.proofs.ProgramAnswers.{program_answers, program_located}
 use Rattle.strc_cli.proofs.Refusing.{drawn_unrefused}
 use Rattle.strc_cli.proofs.answer.answer_to.Goals as goal
 
@@ -84,3 +85,23 @@ returns-in-Graph-None-None-None-default-clause-located g c =
     c.in-Ok-compile_or_where.ensures.plan)
     c.drawn.result
     (subst (λ (choice : Choice). IsDrawn text choice plan c.drawn.result) same c.drawn.ensures)
+
+pub returns-in-Emit-clause-answered : goal.returns-in-Emit-clause-answered
+returns-in-Emit-clause-answered g c =
+    let text = c.args.text.now in
+    let plan = c.in-Ok-compile_or_where.plan in
+    let bytes = g.I.Source.remaining c.args.input.now in
+    let is : IsPlanOf text (choice_of c.args.command.now) plan =
+    subst (λ (choice : Choice). IsPlanOf text choice plan)
+    (same_choice _ _ c.in-Ok.ensures.main c.in-Ok.ensures.ways c.in-Ok.ensures.fuse)
+    c.in-Ok-compile_or_where.ensures.plan in
+    subst (λ (command : Command). IsAnswered text command bytes (Ok c.emitted.result))
+    (sym c.in-Emit.is)
+    (program_answers text c.in-Emit.main bytes plan c.emitted.result
+    (subst (λ (choice : Choice). IsPlanOf text choice plan) (ap choice_of c.in-Emit.is) is)
+    c.emitted.ensures)
+
+pub returns-in-Emit-clause-located : goal.returns-in-Emit-clause-located
+returns-in-Emit-clause-located g c =
+    program_located c.args.text.now c.args.command.now c.in-Ok-compile_or_where.plan
+    c.emitted.result c.emitted.ensures

@@ -2,7 +2,6 @@ use Rattle.std.proofs.Common.{ℤ, List, Result, subst, sym}
 use Rattle.strc_cli.specs.Answering.{IsAnswered}
 use Rattle.strc_cli.specs.Input.{IsRunAnswer}
 use Rattle.strc_cli.specs.declared.answer.Answer.{Answer}
-use Rattle.strc_cli_output.specs.declared.stop.Stop.{Stop}
 use Rattle.strc_cli.specs.declared.execute.CliError.{CliError}
 use Rattle.strc_cli_words.specs.declared.line.Command.TheVariants as command
 use Rattle.strc_cli.proofs.PlanAnswers.{input_run, stopped_run}
@@ -18,7 +17,7 @@ returns-in-Ok-clause-run g c = λ text main ways fuse stats is.
 
 pub returns-in-Err-clause-run : goal.returns-in-Err-clause-run
 returns-in-Err-clause-run g c = λ text main ways fuse stats is.
-    subst (λ (result : Result (Result Answer Stop) CliError).
+    subst (λ (result : Result Answer CliError).
     IsAnswered text (command.Run c.args.rounds c.args.workers ways fuse stats main)
     (g.I.Source.remaining c.args.input.now) result)
     (sym c.unread.ensures)

@@ -10,4 +10,4 @@ returns c =
     (λ shape. record shape { subcommand_required = true }) (new_app (codes "strc")) =
     search rules in
     all_added _ c.subcommands-2.result _ _ _ c.subcommands-2.ensures
-    c.in_ok-subcommands.ensures (refl, (refl, (refl, (refl, tt)))) start
+    c.in_ok-subcommands.ensures (refl, (refl, (refl, (refl, (refl, tt))))) start

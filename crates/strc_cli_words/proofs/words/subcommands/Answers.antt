@@ -1,6 +1,6 @@
 use Rattle.std.proofs.Common.{ap, [], ◌∷◌, Ok, map}
 use Rattle.clap.specs.Words.{app_of}
-use Rattle.strc_cli_words.specs.Lines.{check_app, graph_app, plan_app, run_app}
+use Rattle.strc_cli_words.specs.Lines.{check_app, emit_app, graph_app, plan_app, run_app}
 use Rattle.strc_cli_words.proofs.Parsers.{one_more}
 use Rattle.strc_cli_words.proofs.words.subcommands.Goals as goal
 
@@ -15,6 +15,9 @@ returns c =
     let plans = one_more (λ v. v.items) app_of c.with_last-check.result c.plan_command.result
     c.with_last-plan.result (run_app ∷ check_app ∷ []) plan_app c.with_last-plan.ensures checks
     c.plan_command.ensures.app in
-    one_more (λ v. v.items) app_of c.with_last-plan.result c.graph_command.result
-    c.with_last.result (run_app ∷ check_app ∷ plan_app ∷ []) graph_app c.with_last.ensures plans
-    c.graph_command.ensures.app
+    let emits = one_more (λ v. v.items) app_of c.with_last-plan.result c.emit_command.result
+    c.with_last-emit.result (run_app ∷ check_app ∷ plan_app ∷ []) emit_app
+    c.with_last-emit.ensures plans c.emit_command.ensures.app in
+    one_more (λ v. v.items) app_of c.with_last-emit.result c.graph_command.result
+    c.with_last.result (run_app ∷ check_app ∷ plan_app ∷ emit_app ∷ []) graph_app
+    c.with_last.ensures emits c.graph_command.ensures.app
