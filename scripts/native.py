@@ -1,5 +1,6 @@
-"""A program by way of C: `./strc native FILE [--main NAME] [--rounds N]` writes its C, has it compiled
-by $CC (cc) into build/native under the checksum of the text, and runs it over standard input.
+"""A program by way of C: `./strc native FILE [--main NAME] [--rounds N]` writes its C, has it
+compiled by $CC (cc) into build/native under the checksum of the text, and runs it over standard
+input.
 """
 import hashlib
 import os
