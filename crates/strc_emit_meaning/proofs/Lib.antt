@@ -1,0 +1,14 @@
+pub mod Cells
+pub mod Numbers
+pub mod Places
+pub mod Outcomes
+pub mod Changes
+pub mod Lines
+pub mod Steps
+pub mod Elements
+pub mod Instructions
+pub mod Loops
+pub mod CallRuns
+pub mod Codes
+pub mod Computed
+pub mod Lowered

@@ -1,0 +1,6 @@
+pub mod Refinement
+pub mod Plain
+pub mod Showing
+pub mod Codes
+pub mod Rows
+pub mod Known

@@ -1,0 +1,4 @@
+pub mod Moves
+pub mod Texts
+pub mod Meaning
+pub mod Passing

@@ -1,0 +1,10 @@
+pub mod Slides
+pub mod Works
+pub mod Passes
+pub mod Orders
+pub mod Rounds
+pub mod Places
+pub mod Steps
+pub mod PassingSteps
+pub mod WorkSteps
+pub mod Firings

@@ -1,0 +1,349 @@
+-- A firing in a round of a node that only passes items on leaves what it has to.
+use Rattle.std.proofs.Common.{◌≡◌, ℕ, ◌+◌, ◌*◌, ◌<◌, ◌≤◌, ◌^◌, pos, cond, List, []}
+use Rattle.std.proofs.Common.{length, get_or, Option, Some, None, Ok, sym, ap, ap₂, ◌∙◌}
+use Rattle.std.proofs.Common.{subst}
+use Rattle.std.proofs.Common.{arith}
+use Rattle.std.specs.Prelude.{slice_get, slice_index, unwrap_or}
+use Rattle.std.proofs.lemmas.Bool.{eq-eqb, ne_eqb}
+use Rattle.strc_work_meaning.specs.declared.word.Word.{Word}
+use Rattle.strc_elab_dataflow.specs.Node.{ByPort}
+use Rattle.strc_elab_graph.specs.declared.graph.Channel.{Channel}
+use Rattle.strc_elab_graph.specs.Graphs.{NodeCode}
+use Rattle.strc_elab_graph.specs.Graphs as graphs
+use Rattle.strc_emit_c.specs.Meaning.{Cell, Field, Item}
+use Rattle.strc_emit_moves.specs.declared.places.Items.{Items}
+use Rattle.strc_emit_moves.specs.declared.places.Phase.TheVariants as phase
+use Rattle.strc_emit_moves.specs.Places.{taken_at, given_at, pops_of, pushes_of}
+use Rattle.strc_emit_passes.specs.Meaning.{place_value}
+use Rattle.strc_emit_passes.specs.Passing.{FindsItems, HasPassed, IsNotGiven, numbers_taken}
+use Rattle.strc_emit_runs.specs.Running.{Program, Running, around, rooms_in, memory_of, node_done}
+use Rattle.strc_emit_runs.specs.Places.{before_it, IsLater}
+use Rattle.strc_emit_runs.specs.Orders.{Queues, RoundShows, items_begin, items_end}
+use Rattle.strc_emit_runs.specs.Orders.{fired_on}
+use Rattle.strc_emit_runs.specs.Steps.{FiresTo}
+use Rattle.strc_emit_runs.specs.PassingSteps.{TakesOf, GivesOf, IsWired, SeesFronts, GivesRates}
+use Rattle.strc_emit_runs.specs.PassingSteps.{ReadsAsReader, PassingFiresTo}
+use Rattle.strc_emit_runs.proofs.Places.{places_are_counted}
+use Rattle.strc_emit_runs.proofs.Passes.{passes_fire}
+
+pub same_channel : (a b : Channel) → Some a ≡ Some b → a ≡ b
+same_channel a b e = ap (λ o. unwrap_or o a) e
+
+item_channel : Cell → ℕ
+item_channel (Item channel place) = channel
+item_channel _ = 0
+
+item_place : Cell → ℕ
+item_place (Item channel place) = place
+item_place _ = 0
+
+is_item : Cell → Option (List ℕ)
+is_item (Item channel place) = Some []
+is_item _ = None
+
+pub channel_is : (channel place other there : ℕ) → Item channel place ≡ Item other there
+    → channel ≡ other
+unfolding item_channel
+channel_is channel place other there e = ap item_channel e
+
+pub place_is : (channel place other there : ℕ) → Item channel place ≡ Item other there
+    → place ≡ there
+unfolding item_place
+place_is channel place other there e = ap item_place e
+
+pub not_item : (node slot channel place : ℕ) → Field node slot ≡ Item channel place → ⊥
+unfolding is_item
+not_item node slot channel place e = none (ap is_item e)
+  where
+    none : ◌≡◌ {A = Option (List ℕ)} None (Some []) → ⊥
+    none e = cc
+
+module _ (program : Program) (round : ℕ) (fired : ℕ → ℕ) (now : Queues) (running : Running)
+    (node : ℕ) (seen pushes : ByPort) (shows : RoundShows program round fired now running)
+    (wired : IsWired program node fired) (fronts : SeesFronts now node seen)
+    (rates : GivesRates program node pushes) where
+  abbrev pub i : ℕ
+  i = fired node
+
+  abbrev pub place_of : Option Items → ℕ
+  place_of None = 0
+  place_of (Some items) = items.after + items.each * i
+
+  abbrev pub from : ℕ → ℕ
+  from port = place_of (taken_at program.network phase.Round node port)
+
+  abbrev pub to : ℕ → ℕ
+  to port = place_of (given_at program.network phase.Round node port)
+
+  pub round_at : (items : Items) → items.phase ≡ phase.Round → items.after + items.each * i < 2 ^ 31
+      → place_value items (pos i) ≡ Ok (pos (items.after + items.each * i))
+  round_at items when fits =
+      let same : before_it items.phase i ≡ i = ap (λ w. before_it w i) when in
+      places_are_counted items i (subst (λ w. IsLater w i) (sym when) tt) wired.few
+      (subst (λ n. items.after + items.each * n < 2 ^ 31) (sym same) fits)
+      ∙ ap (λ n. Ok (pos (items.after + items.each * n))) same
+
+  -- where a port's items begin and end
+  pub taken_begin : (port : ℕ) (items : Items) (is : TakesOf program node port items)
+      → items.after + items.each * i ≡ items_begin program is.channel fired
+  taken_begin port items is =
+      ap₂ (λ a e. a + e * i) is.after is.each
+      ∙ ap₂ (λ n p. 0 + pops_of program.network.nodes.now n 1 p * fired n) (sym is.node_is)
+      (sym is.port_is)
+      ∙ omega arith
+
+  pub given_end : (port : ℕ) (items : Items) (is : GivesOf program node port items)
+      → items.after + items.each * i ≡ items_end program items.channel is.channel fired
+  given_end port items is =
+      ap₂ (λ a e. a + e * i) is.after is.each
+      ∙ ap₂ (λ n p. slice_index program.network.left.now items.channel
+      + pushes_of program.network.nodes.now n 1 p * fired n) (sym is.node_is) (sym is.port_is)
+
+  pub own_end : (number : ℕ) (channel : Channel) → channel.source.node ≡ node
+      → items_end program number channel (fired_on fired node 1)
+      ≡ items_end program number channel fired
+      + pushes_of program.network.nodes.now channel.source.node 1 channel.source.port
+  own_end number channel is =
+      let left : ℕ = slice_index program.network.left.now number in
+      let rate : ℕ =
+      pushes_of program.network.nodes.now channel.source.node 1 channel.source.port in
+      let more : fired node ≡ fired channel.source.node = ap fired (sym is) in
+      ap (λ t. left + rate * cond t (fired node + 1) (fired channel.source.node))
+      (eq-eqb channel.source.node node is)
+      ∙ ap (λ n. left + rate * (n + 1)) more
+      ∙ omega arith
+
+  pub other_end : (number : ℕ) (channel : Channel) → (channel.source.node ≡ node → ⊥)
+      → items_end program number channel (fired_on fired node 1)
+      ≡ items_end program number channel fired
+  other_end number channel differ =
+      let left : ℕ = slice_index program.network.left.now number in
+      let rate : ℕ =
+      pushes_of program.network.nodes.now channel.source.node 1 channel.source.port in
+      ap (λ t. left + rate * cond t (fired node + 1) (fired channel.source.node))
+      (ne_eqb channel.source.node node differ)
+
+  -- what is taken ends before the array does
+  taken_fits : (port : ℕ) (items : Items) → TakesOf program node port items
+      → items.after + items.each * i + length (seen port) ≤ rooms_in program items.channel
+  taken_fits port items is =
+      let queue : now.queues is.channel.target.node is.channel.target.port ≡ now.queues node port =
+      ap₂ now.queues is.node_is is.port_is in
+      omega (
+        arith,
+        taken_begin port items is,
+        (fronts port).0,
+        ap length queue,
+        shows.ends items.channel is.channel is.there,
+        wired.room items.channel is.channel is.there,
+        other_end items.channel is.channel
+            (λ e. wired.apart items.channel is.channel is.there (e ∙ sym is.node_is)),
+      )
+
+  given_fits : (port : ℕ) (items : Items) → GivesOf program node port items
+      → items.after + items.each * i + length (pushes port) ≤ rooms_in program items.channel
+  given_fits port items is =
+      let rate : pushes_of program.network.nodes.now is.channel.source.node 1
+      is.channel.source.port ≡ pushes_of program.network.nodes.now node 1 port =
+      ap₂ (λ n p. pushes_of program.network.nodes.now n 1 p) is.node_is is.port_is in
+      omega (
+        arith,
+        given_end port items is,
+        rates port,
+        rate,
+        own_end items.channel is.channel is.node_is,
+        wired.room items.channel is.channel is.there,
+      )
+
+  pub from_is : (port : ℕ) (items : Items)
+      → taken_at program.network phase.Round node port ≡ Some items
+      → from port ≡ items.after + items.each * i
+  from_is port items at = ap place_of at
+
+  pub to_is : (port : ℕ) (items : Items)
+      → given_at program.network phase.Round node port ≡ Some items
+      → to port ≡ items.after + items.each * i
+  to_is port items at = ap place_of at
+
+  pub finds : FindsItems program.network phase.Round node (around program) i seen pushes from to
+      (memory_of running node)
+  finds = record {
+    taken_place = λ port items at.
+        let is = wired.takes port items at in
+        round_at items is.when
+        (omega (arith, taken_fits port items is, wired.small items.channel))
+        ∙ ap (λ n. Ok (pos n)) (sym (from_is port items at));
+    given_place = λ port items at.
+        let is = wired.gives port items at in
+        round_at items is.when
+        (omega (arith, given_fits port items is, wired.small items.channel))
+        ∙ ap (λ n. Ok (pos n)) (sym (to_is port items at));
+    taken_room = λ port items at.
+        omega (arith, from_is port items at, taken_fits port items (wired.takes port items at));
+    given_room = λ port items at.
+        omega (arith, to_is port items at, given_fits port items (wired.gives port items at));
+    small = wired.small;
+    apart = λ port other items others at there same.
+        let is = wired.takes port items at in
+        let out = wired.gives other others there in
+        let one : is.channel ≡ out.channel =
+        same_channel is.channel out.channel (sym is.there
+        ∙ ap (slice_get program.network.channels.now) (sym same) ∙ out.there) in
+        wired.apart items.channel is.channel is.there
+        (ap (λ (c : Channel). c.source.node) one ∙ out.node_is ∙ sym is.node_is);
+    own = λ port other items others at there differ same.
+        let is = wired.gives port items at in
+        let out = wired.gives other others there in
+        let one : is.channel ≡ out.channel =
+        same_channel is.channel out.channel (sym is.there
+        ∙ ap (slice_get program.network.channels.now) same ∙ out.there) in
+        differ (sym is.port_is ∙ ap (λ (c : Channel). c.source.port) one ∙ out.port_is);
+    finds = λ port items at place lt.
+        let is = wired.takes port items at in
+        let queue : now.queues is.channel.target.node is.channel.target.port
+        ≡ now.queues node port = ap₂ now.queues is.node_is is.port_is in
+        ap (λ n. running.cells (Item items.channel (n + place)))
+        (from_is port items at ∙ taken_begin port items is)
+        ∙ shows.items items.channel is.channel is.there place
+        (omega (arith, lt, (fronts port).0, ap length queue))
+        ∙ ap (λ l. get_or l place (pos 0)) queue
+        ∙ (fronts port).1 place lt;
+  }
+
+  -- a cell before a channel's end is none that is given
+  not_given : (number : ℕ) (channel : Channel) (place : ℕ)
+      → slice_get program.network.channels.now number ≡ Some channel
+      → place < items_end program number channel fired
+      → IsNotGiven program.network phase.Round node pushes to (Item number place)
+  not_given number channel place there before port items k at lt same =
+      let is = wired.gives port items at in
+      let number_is : number ≡ items.channel =
+      channel_is number place items.channel (to port + k) same in
+      let one : channel ≡ is.channel =
+      same_channel channel is.channel (sym there
+      ∙ ap (slice_get program.network.channels.now) number_is ∙ is.there) in
+      let end : items_end program number channel fired
+      ≡ items_end program items.channel is.channel fired =
+      ap₂ (λ n c. items_end program n c fired) number_is one in
+      omega (
+        arith,
+        before,
+        end,
+        given_end port items is,
+        to_is port items at,
+        place_is number place items.channel (to port + k) same,
+      )
+
+  fires_to : (code : NodeCode) (printed : List Word) (after : Running)
+      → ReadsAsReader program node code
+      → HasPassed program.network phase.Round node pushes to printed (memory_of running node)
+      (memory_of after node)
+      → ((other : ℕ) → (other ≡ node → ⊥) → after.tapes other ≡ running.tapes other)
+      → after.taken ≡ running.taken + numbers_taken code → after.round ≡ running.round
+      → FiresTo program node fired [] pushes printed running after
+  fires_to code printed after reads passed tapes taken same = record {
+    round = same;
+    gives = λ number channel there own place lt.
+        let out = wired.given number channel there own in
+        let is = wired.gives channel.source.port out.0 out.1 in
+        let one : is.channel ≡ channel =
+        same_channel is.channel channel (sym is.there
+        ∙ ap (slice_get program.network.channels.now) out.2 ∙ there) in
+        let end : to channel.source.port ≡ items_end program number channel fired =
+        to_is channel.source.port out.0 out.1 ∙ given_end channel.source.port out.0 is
+        ∙ ap₂ (λ n c. items_end program n c fired) out.2 one in
+        ap₂ (λ n p. after.cells (Item n (p + place))) (sym out.2) (sym end)
+        ∙ passed.items channel.source.port out.0 out.1 place lt;
+    sizes = λ number channel there own.
+        rates channel.source.port
+        ∙ ap (λ n. pushes_of program.network.nodes.now n 1 channel.source.port) (sym own);
+    kept = λ number channel place there before.
+        passed.kept (Item number place) (not_given number channel place there before);
+    own = λ slot lt. absurd (omega (arith, lt));
+    others = λ other slot differ. passed.kept (Field other slot)
+        (λ port items k at lt e. not_item other slot items.channel (to port + k) e);
+    tape = passed.words;
+    tapes = tapes;
+    reads = λ here. taken ∙ ap (λ n. running.taken + n) (reads.own here);
+    reads_none = λ reader here differ.
+        taken ∙ ap (λ n. running.taken + n) (reads.other reader here differ) ∙ omega arith;
+  }
+
+-- what fires leaves what it has to
+module _ (program : Program) (round : ℕ) (fired : ℕ → ℕ) (now : Queues) (running : Running)
+    (node : ℕ) (seen : ByPort) (shows : RoundShows program round fired now running)
+    (wired : IsWired program node fired) (fronts : SeesFronts now node seen) where
+  leaves : (code : NodeCode) (pushes : ByPort) (printed : List Word)
+      → ReadsAsReader program node code
+      → ((from to : ℕ → ℕ)
+      → FindsItems program.network phase.Round node (around program) (fired node) seen pushes from
+      to (memory_of running node)
+      → (after : Running)
+      × (node_done program phase.Round node code (pos (fired node)) running ≡ Ok after)
+      × HasPassed program.network phase.Round node pushes to printed (memory_of running node)
+      (memory_of after node)
+      × ((other : ℕ) → (other ≡ node → ⊥) → after.tapes other ≡ running.tapes other)
+      × (after.taken ≡ running.taken + numbers_taken code)
+      × (after.round ≡ running.round))
+      → GivesRates program node pushes
+      → (after : Running)
+      × (node_done program phase.Round node code (pos (fired node)) running ≡ Ok after)
+      × FiresTo program node fired [] pushes printed running after
+  leaves code pushes printed reads fire rates =
+      let places_from = from program round fired now running node seen pushes shows wired fronts
+      rates in
+      let places_to = to program round fired now running node seen pushes shows wired fronts
+      rates in
+      let done = fire places_from places_to (finds program round fired now running node seen pushes
+      shows wired fronts rates) in (
+        done.0,
+        done.1,
+        fires_to program round fired now running node seen pushes shows wired fronts
+            rates code printed done.0 reads done.2 done.3 done.4 done.5,
+      )
+
+pub passing_fires_to : PassingFiresTo
+passing_fires_to program round fired now running node graphs.Identity fields
+    seen shows wired fronts reader is sees inputs reads =
+    leaves program round fired now running node seen shows wired fronts
+    graphs.Identity _ _ reader
+    (λ from to. passes_fire program phase.Round node graphs.Identity
+    (fired node) fields seen from to running is sees inputs reads)
+passing_fires_to program round fired now running node (graphs.FileReader text) fields
+    seen shows wired fronts reader is sees inputs reads =
+    leaves program round fired now running node seen shows wired fronts
+    (graphs.FileReader text) _ _ reader
+    (λ from to. passes_fire program phase.Round node (graphs.FileReader text)
+    (fired node) fields seen from to running is sees inputs reads)
+passing_fires_to program round fired now running node (graphs.FileWriter text) fields
+    seen shows wired fronts reader is sees inputs reads =
+    leaves program round fired now running node seen shows wired fronts
+    (graphs.FileWriter text) _ _ reader
+    (λ from to. passes_fire program phase.Round node (graphs.FileWriter text)
+    (fired node) fields seen from to running is sees inputs reads)
+passing_fires_to program round fired now running node
+    (graphs.Splitter (graphs.Duplicate carried)) fields seen shows wired f r is sees ins reads =
+    leaves program round fired now running node seen shows wired f
+    (graphs.Splitter (graphs.Duplicate carried)) _ _ r
+    (λ from to. passes_fire program phase.Round node (graphs.Splitter (graphs.Duplicate carried))
+    (fired node) fields seen from to running is sees ins reads)
+passing_fires_to program round fired now running node
+    (graphs.Splitter (graphs.Roundrobin weights)) fields seen shows wired f r is sees ins reads =
+    leaves program round fired now running node seen shows wired f
+    (graphs.Splitter (graphs.Roundrobin weights)) _ _ r
+    (λ from to. passes_fire program phase.Round node (graphs.Splitter (graphs.Roundrobin weights))
+    (fired node) fields seen from to running is sees ins reads)
+passing_fires_to program round fired now running node (graphs.Joiner weights) fields
+    seen shows wired fronts reader is sees inputs reads =
+    leaves program round fired now running node seen shows wired fronts
+    (graphs.Joiner weights) _ _ reader
+    (λ from to. passes_fire program phase.Round node (graphs.Joiner weights)
+    (fired node) fields seen from to running is sees inputs reads)
+passing_fires_to program round fired now running node (graphs.Filter name filter) fields
+    seen shows wired fronts reader is sees inputs reads = absurd is
+passing_fires_to program round fired now running node (graphs.Scatter fission) fields
+    seen shows wired fronts reader is sees inputs reads = absurd is
+passing_fires_to program round fired now running node (graphs.Copy copied fission) fields
+    seen shows wired fronts reader is sees inputs reads = absurd is
+passing_fires_to program round fired now running node (graphs.Gather fission) fields
+    seen shows wired fronts reader is sees inputs reads = absurd is

@@ -1,0 +1,11 @@
+pub mod Running
+pub mod Windows
+pub mod Works
+pub mod Passes
+pub mod Orders
+pub mod Rounds
+pub mod Places
+pub mod Steps
+pub mod PassingSteps
+pub mod WorkSteps
+pub mod Firings

@@ -1,0 +1,22 @@
+-- Where a firing has its items, as a number.
+use Rattle.std.specs.Prelude.{◌≡◌, ℕ, ◌+◌, ◌-◌, ◌*◌, ◌<◌, ◌≤◌, ◌^◌, pos, Ok}
+use Rattle.strc_emit_moves.specs.declared.places.Items.{Items}
+use Rattle.strc_emit_moves.specs.declared.places.Phase.{Phase}
+use Rattle.strc_emit_moves.specs.declared.places.Phase.TheVariants as phase
+use Rattle.strc_emit_passes.specs.Meaning.{place_value}
+
+-- how many firings of a phase are before firing i: the first one of start-up is apart
+abbrev pub before_it : Phase → (i : ℕ) → ℕ
+before_it phase.Startup i = i - 1
+before_it phase.Round i = i
+
+abbrev pub IsLater : Phase → (i : ℕ) → Type 0
+IsLater phase.Startup i = 1 ≤ i
+IsLater phase.Round i = Unit {0}
+
+-- `2 + 3 * i`, `2 + 3 * (i - 1)`: a place that an int holds is the number of items before it
+abbrev pub PlacesAreCounted : Type 0
+PlacesAreCounted =
+    (items : Items) (i : ℕ) → IsLater items.phase i → i < 2 ^ 31
+    → items.after + items.each * before_it items.phase i < 2 ^ 31
+    → place_value items (pos i) ≡ Ok (pos (items.after + items.each * before_it items.phase i))
