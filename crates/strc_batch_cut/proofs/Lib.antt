@@ -1,0 +1,5 @@
+pub mod Picks
+pub mod Weighed
+pub mod Plans
+pub mod Even
+pub mod Work

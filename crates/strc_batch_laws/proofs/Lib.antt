@@ -1,0 +1,9 @@
+pub mod Batch
+pub mod Schedule
+pub mod Done
+pub mod Again
+pub mod Fills
+pub mod Fronts
+pub mod Fits
+pub mod Units
+pub mod Row

@@ -1,0 +1,5 @@
+use Rattle.strc_batch_laws.proofs.Row.{batch_units_row}
+use Rattle.strc_batch_laws.proofs.batch_units_row.Goals as goal
+
+pub returns : goal.returns
+returns c = batch_units_row

@@ -1,0 +1,7 @@
+pub mod Batches
+pub mod Runs
+pub mod Again
+pub mod Fills
+pub mod Fits
+pub mod Units
+pub mod Rows

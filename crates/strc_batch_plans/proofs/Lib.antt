@@ -1,0 +1,5 @@
+pub mod Going
+pub mod Rings
+pub mod Wide
+pub mod Plans
+pub mod Row

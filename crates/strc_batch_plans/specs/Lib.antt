@@ -1,0 +1,4 @@
+pub mod Batched
+pub mod Rings
+pub mod Plans
+pub mod Rows
