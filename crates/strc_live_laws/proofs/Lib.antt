@@ -1,0 +1,5 @@
+pub mod Steps
+pub mod Windows
+pub mod Rounds
+pub mod Live
+pub mod Row

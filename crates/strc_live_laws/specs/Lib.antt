@@ -1,0 +1,4 @@
+pub mod Windows
+pub mod Rounds
+pub mod Live
+pub mod Rows

@@ -1,0 +1,4 @@
+pub mod Startups
+pub mod Answers
+pub mod Readers
+pub mod Runs
