@@ -42,7 +42,7 @@ struct Planned {
 }
 
 /// The graph of a pipeline of these children, and what is planned of it.
-fn planned(alloc: Global, graph: &Graph) -> Result<Planned, Fail>
+fn planned_of(alloc: Global, graph: &Graph) -> Result<Planned, Fail>
     requires rated { All IsRated (equations_of (graph_view graph.now)) }
     requires connected { IsConnected (graph_view graph.now) }
     ensures { IfOk result (λ planned. CanBeFused (graph_view graph.now) planned.schedule) }
@@ -79,7 +79,7 @@ fn windows_are_filled_before_the_first_round(rt: HostRuntime) -> Result<(), Fail
     let Ok(true) = can_balance(alloc, &graph) else {
         return Err(Fail::from("outside the condition"));
     };
-    let planned = planned(alloc, &graph)?;
+    let planned = planned_of(alloc, &graph)?;
     assert_eq!(rt; planned.startup.as_slice(), [2, 0, 0].as_slice());
     assert_eq!(rt; planned.round.as_slice(), [1, 1, 1].as_slice());
     let before = planned.schedule.startup();
@@ -98,7 +98,7 @@ fn units_are_fused(rt: HostRuntime) -> Result<(), Fail> {
     let Ok(true) = can_balance(alloc, &graph) else {
         return Err(Fail::from("outside the condition"));
     };
-    let planned = planned(alloc, &graph)?;
+    let planned = planned_of(alloc, &graph)?;
     assert_eq!(rt; planned.round.as_slice(), [3, 3, 2, 2].as_slice());
     let mut schedule = planned.schedule;
     assert_eq!(rt; schedule.sizes(), [3, 6, 2].as_slice());
@@ -119,7 +119,7 @@ fn filters_are_split(rt: HostRuntime) -> Result<(), Fail> {
     let Ok(true) = can_balance(alloc, &graph) else {
         return Err(Fail::from("outside the condition"));
     };
-    let planned = planned(alloc, &graph)?;
+    let planned = planned_of(alloc, &graph)?;
     let split: Result<Split, FissError> = fission(
         alloc,
         &graph,
@@ -144,7 +144,7 @@ fn buffers_are_sized_by_an_order(rt: HostRuntime) -> Result<(), Fail> {
     let Ok(true) = can_balance(alloc, &graph) else {
         return Err(Fail::from("outside the condition"));
     };
-    let planned = planned(alloc, &graph)?;
+    let planned = planned_of(alloc, &graph)?;
     let schedule = &planned.schedule;
     let (before, fill) = (schedule.greatest(), schedule.last());
     let found: Result<Vec<u32>, ScheduleError> = sizes(
