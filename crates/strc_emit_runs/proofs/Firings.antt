@@ -72,7 +72,7 @@ filters_go graph program round times now running node name filter code work held
 pub passing_go : PassingGo
 unfolding fifo_fire fifo_if
 passing_go graph program round times now running node code code_is held shows wired sees_fronts
-    reader is sees inputs reads takes rates =
+    reader at is sees inputs reads takes rates =
     subst (λ b. Goes (RoundShows program round (fired_on times node 1))
     (fifo_if node_meaning graph now node b)
     (firing_of program phase.Round node code (times node) running)) (sym held)
@@ -81,7 +81,7 @@ passing_go graph program round times now running node code code_is held shows wi
     (now.runs node).state (seen_at graph now node)))
     (firing_of program phase.Round node code (times node) running)) (sym code_is)
     (by code is rates (passing_fires_to program round times now running node code []
-    (seen_at graph now node) shows wired sees_fronts reader is sees inputs reads)))
+    (seen_at graph now node) shows wired sees_fronts reader at is sees inputs reads)))
   where
     finish : (code : NodeCode) (pushes : ByPort) (printed : List Word)
         → GivesRates program node pushes

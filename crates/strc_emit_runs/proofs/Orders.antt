@@ -1,9 +1,9 @@
 -- Calls follow their order, and rounds follow rounds.
 use Rattle.std.proofs.Common.{◌≡◌, ℕ, zero, suc, ◌+◌, ◌≤◌, ℤ, true, false, cond, List, []}
 use Rattle.std.proofs.Common.{◌∷◌, ◌++◌, replicate, Some, Result, Ok, Err, refl, sym, ap, ◌∙◌}
-use Rattle.std.proofs.Common.{subst, arith, ◌==◌, ◌⊎◌, inl, inr}
+use Rattle.std.proofs.Common.{subst, arith, ◌==◌, ◌⊎◌, inl, inr, Bool}
 use mathlib.Core.Path.{fun_ext}
-use Rattle.std.proofs.lemmas.Bool.{cases_eq, eq-eqb, ne_eqb}
+use Rattle.std.proofs.lemmas.Bool.{cases_eq, eq-eqb, ne_eqb, eqb-true}
 use Rattle.strc_lex_names.specs.Results.{result_and_then}
 use Rattle.strc_work_meaning.specs.declared.fault.Cause.{Cause}
 use Rattle.strc_work_meaning.specs.declared.word.Word.{Word}
@@ -19,6 +19,7 @@ use Rattle.strc_emit_runs.specs.Running.{Program, Running, Halt, FaultsIn, NoMea
 use Rattle.strc_emit_runs.specs.Running.{firings_done, NodeCall, code_at, call_done, calls_done}
 use Rattle.strc_emit_runs.specs.Running.{order_done, after_round, rounds_done}
 use Rattle.strc_emit_runs.specs.Orders.{Queues, Goes, fired_on, RoundShows, FiringsGo, AreCallsOf}
+use Rattle.strc_emit_runs.specs.Orders.{AreWithin}
 use Rattle.strc_emit_runs.specs.Orders.{IfWent, FindsAlong, FindsInRounds, fired_after, OrdersGo}
 use Rattle.strc_emit_runs.specs.Orders.{TellsEnd, IsBetween, RoundsGo, RunsGo}
 
@@ -76,6 +77,16 @@ fired_here : (fired : ℕ → ℕ) (node : ℕ) → fired_on fired node 1 node �
 fired_here fired node =
     ap (λ t. cond t (fired node + 1) (fired node)) (eq-eqb node node refl)
 
+within_on : (most fired : ℕ → ℕ) (node count : ℕ) → AreWithin most fired
+    → fired node + count ≤ most node → AreWithin most (fired_on fired node count)
+within_on most fired node count all within other = by (other == node) refl
+  where
+    by : (t : Bool) → (other == node) ≡ t
+        → cond t (fired node + count) (fired other) ≤ most other
+    by true e =
+        subst (λ n. fired node + count ≤ most n) (sym (eqb-true other node e)) within
+    by false e = all other
+
 module _ (graph : flat.Graph NodeCode) (program : Program) (most : ℕ → ℕ)
     (steps : FiringsGo graph program most) (round : ℕ) where
   abbrev Shown : (ℕ → ℕ) → Queues → Running → Type 0
@@ -85,7 +96,8 @@ module _ (graph : flat.Graph NodeCode) (program : Program) (most : ℕ → ℕ)
   firings_go : (count : ℕ) (node : ℕ) (code : NodeCode) (later : List ℕ)
       (g : Running → Result Running Halt) (Next : Queues → Running → Type 0) (fired : ℕ → ℕ)
       (now : Queues) (running : Running) → code_at program node ≡ Some code
-      → fired node + count ≤ most node → FindsAlong graph (replicate count node ++ later) now
+      → AreWithin most fired → fired node + count ≤ most node
+      → FindsAlong graph (replicate count node ++ later) now
       → Shown fired now running
       → ((after : Queues) (left : Running) → FindsAlong graph later after
       → Shown (fired_on fired node count) after left
@@ -93,10 +105,10 @@ module _ (graph : flat.Graph NodeCode) (program : Program) (most : ℕ → ℕ)
       → Goes Next (fifo_go node_meaning graph (replicate count node ++ later) now)
       (result_and_then (firings_done program phase.Round node code (fired node) count running) g)
   unfolding fifo_go
-  firings_go zero node code later g Next fired now running is within finds shown next =
+  firings_go zero node code later g Next fired now running is all within finds shown next =
       next now running finds
       (subst (λ f. Shown f now running) (sym (fired_none fired node)) shown)
-  firings_go (suc count) node code later g Next fired now running is within finds shown next =
+  firings_go (suc count) node code later g Next fired now running is all within finds shown next =
       let tail : Running → Result Running Halt =
       λ left. result_and_then
       (firings_done program phase.Round node code (fired node + 1) count left) g in
@@ -108,12 +120,13 @@ module _ (graph : flat.Graph NodeCode) (program : Program) (most : ℕ → ℕ)
       (FindsAlong graph (replicate count node ++ later)) (fifo_fire node_meaning graph now node)
       (firing_of program phase.Round node code (fired node) running)
       (fifo_go node_meaning graph (replicate count node ++ later)) tail finds.1
-      (steps round fired now running node code is (omega (arith, within)) finds.0 shown)
+      (steps round fired now running node code is all (omega (arith, within)) finds.0 shown)
       (λ after left more s. subst (λ n. Goes Next
       (fifo_go node_meaning graph (replicate count node ++ later) after)
       (result_and_then (firings_done program phase.Round node code n count left) g))
       (fired_here fired node)
       (firings_go count node code later g Next (fired_on fired node 1) after left is
+      (within_on most fired node 1 all (omega (arith, within)))
       (omega (arith, within, fired_here fired node)) more s
       (λ after' left' more' s'. next after' left' more'
       (subst (λ f. Shown f after' left') (fired_more fired node count) s')))))
@@ -125,15 +138,15 @@ module _ (graph : flat.Graph NodeCode) (program : Program) (most : ℕ → ℕ)
       assoc (Err why) f g = refl
 
   pub calls_go : (calls : List NodeCall) (order : List ℕ) (fired : ℕ → ℕ) (now : Queues)
-      (running : Running) → AreCallsOf program most fired calls order
+      (running : Running) → AreWithin most fired → AreCallsOf program most fired calls order
       → FindsAlong graph order now → Shown fired now running
       → Goes (Shown (fired_after fired calls)) (fifo_go node_meaning graph order now)
       (calls_done program phase.Round calls running)
   unfolding fifo_go
-  calls_go [] order fired now running are finds shown =
+  calls_go [] order fired now running all are finds shown =
       subst (λ o. Goes (Shown fired) (fifo_go node_meaning graph o now) (Ok running)) (sym are)
       shown
-  calls_go (call ∷ rest) order fired now running are finds shown =
+  calls_go (call ∷ rest) order fired now running all are finds shown =
       let code = are.2 in
       let later = are.3 in
       let next : Running → Result Running Halt = calls_done program phase.Round rest in
@@ -150,13 +163,13 @@ module _ (graph : flat.Graph NodeCode) (program : Program) (most : ℕ → ℕ)
       call.count running) next)) (sym code.1)
       (firings_go call.count call.node code.0 later.0 next
       (Shown (fired_after (fired_on fired call.node call.count) rest)) fired now running code.1
-      are.1 (subst (λ o. FindsAlong graph o now) later.1 finds) shown
+      all are.1 (subst (λ o. FindsAlong graph o now) later.1 finds) shown
       (λ after left more s. calls_go rest later.0 (fired_on fired call.node call.count) after left
-      later.2 more s))))
+      (within_on most fired call.node call.count all are.1) later.2 more s))))
 
 pub orders_go : OrdersGo
-orders_go graph program most steps calls order round fired now running are finds shown =
-    calls_go graph program most steps round calls order fired now running are finds shown
+orders_go graph program most steps calls order round fired now running all are finds shown =
+    calls_go graph program most steps round calls order fired now running all are finds shown
 
 module _ (graph : flat.Graph NodeCode) (program : Program) (calls : List NodeCall)
     (order : List ℕ) (input : List ℤ) (rounds : RoundsGo graph program calls order) where

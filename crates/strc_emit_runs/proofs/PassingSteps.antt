@@ -16,7 +16,9 @@ use Rattle.strc_emit_moves.specs.declared.places.Phase.TheVariants as phase
 use Rattle.strc_emit_moves.specs.Places.{taken_at, given_at, pops_of, pushes_of}
 use Rattle.strc_emit_passes.specs.Meaning.{place_value}
 use Rattle.strc_emit_passes.specs.Passing.{FindsItems, HasPassed, IsNotGiven, numbers_taken}
+use Rattle.strc_emit_passes.specs.Passing.{IsPassing}
 use Rattle.strc_emit_runs.specs.Running.{Program, Running, around, rooms_in, memory_of, node_done}
+use Rattle.strc_emit_runs.specs.Running.{code_at}
 use Rattle.strc_emit_runs.specs.Places.{before_it, IsLater}
 use Rattle.strc_emit_runs.specs.Orders.{Queues, RoundShows, items_begin, items_end}
 use Rattle.strc_emit_runs.specs.Orders.{fired_on}
@@ -234,14 +236,15 @@ module _ (program : Program) (round : ℕ) (fired : ℕ → ℕ) (now : Queues) 
         place_is number place items.channel (to port + k) same,
       )
 
-  fires_to : (code : NodeCode) (printed : List Word) (after : Running)
+  fires_to : (code : NodeCode) (printed : List Word)
+      → code_at program node ≡ Some code → IsPassing code → (after : Running)
       → ReadsAsReader program node code
       → HasPassed program.network phase.Round node pushes to printed (memory_of running node)
       (memory_of after node)
       → ((other : ℕ) → (other ≡ node → ⊥) → after.tapes other ≡ running.tapes other)
       → after.taken ≡ running.taken + numbers_taken code → after.round ≡ running.round
       → FiresTo program node fired [] pushes printed running after
-  fires_to code printed after reads passed tapes taken same = record {
+  fires_to code printed at is after reads passed tapes taken same = record {
     round = same;
     gives = λ number channel there own place lt.
         let out = wired.given number channel there own in
@@ -262,6 +265,8 @@ module _ (program : Program) (round : ℕ) (fired : ℕ → ℕ) (now : Queues) 
     own = λ slot lt. absurd (omega (arith, lt));
     others = λ other slot differ. passed.kept (Field other slot)
         (λ port items k at lt e. not_item other slot items.channel (to port + k) e);
+    count = λ name filter here.
+        absurd (subst IsPassing (ap (λ o. unwrap_or o code) (sym at ∙ here)) is);
     tape = passed.words;
     tapes = tapes;
     reads = λ here. taken ∙ ap (λ n. running.taken + n) (reads.own here);
@@ -274,7 +279,7 @@ module _ (program : Program) (round : ℕ) (fired : ℕ → ℕ) (now : Queues) 
     (node : ℕ) (seen : ByPort) (shows : RoundShows program round fired now running)
     (wired : IsWired program node fired) (fronts : SeesFronts now node seen) where
   leaves : (code : NodeCode) (pushes : ByPort) (printed : List Word)
-      → ReadsAsReader program node code
+      → code_at program node ≡ Some code → IsPassing code → ReadsAsReader program node code
       → ((from to : ℕ → ℕ)
       → FindsItems program.network phase.Round node (around program) (fired node) seen pushes from
       to (memory_of running node)
@@ -289,7 +294,7 @@ module _ (program : Program) (round : ℕ) (fired : ℕ → ℕ) (now : Queues) 
       → (after : Running)
       × (node_done program phase.Round node code (pos (fired node)) running ≡ Ok after)
       × FiresTo program node fired [] pushes printed running after
-  leaves code pushes printed reads fire rates =
+  leaves code pushes printed at is reads fire rates =
       let places_from = from program round fired now running node seen pushes shows wired fronts
       rates in
       let places_to = to program round fired now running node seen pushes shows wired fronts
@@ -299,51 +304,51 @@ module _ (program : Program) (round : ℕ) (fired : ℕ → ℕ) (now : Queues) 
         done.0,
         done.1,
         fires_to program round fired now running node seen pushes shows wired fronts
-            rates code printed done.0 reads done.2 done.3 done.4 done.5,
+            rates code printed at is done.0 reads done.2 done.3 done.4 done.5,
       )
 
 pub passing_fires_to : PassingFiresTo
 passing_fires_to program round fired now running node graphs.Identity fields
-    seen shows wired fronts reader is sees inputs reads =
+    seen shows wired fronts reader at is sees inputs reads =
     leaves program round fired now running node seen shows wired fronts
-    graphs.Identity _ _ reader
+    graphs.Identity _ _ at is reader
     (λ from to. passes_fire program phase.Round node graphs.Identity
     (fired node) fields seen from to running is sees inputs reads)
 passing_fires_to program round fired now running node (graphs.FileReader text) fields
-    seen shows wired fronts reader is sees inputs reads =
+    seen shows wired fronts reader at is sees inputs reads =
     leaves program round fired now running node seen shows wired fronts
-    (graphs.FileReader text) _ _ reader
+    (graphs.FileReader text) _ _ at is reader
     (λ from to. passes_fire program phase.Round node (graphs.FileReader text)
     (fired node) fields seen from to running is sees inputs reads)
 passing_fires_to program round fired now running node (graphs.FileWriter text) fields
-    seen shows wired fronts reader is sees inputs reads =
+    seen shows wired fronts reader at is sees inputs reads =
     leaves program round fired now running node seen shows wired fronts
-    (graphs.FileWriter text) _ _ reader
+    (graphs.FileWriter text) _ _ at is reader
     (λ from to. passes_fire program phase.Round node (graphs.FileWriter text)
     (fired node) fields seen from to running is sees inputs reads)
 passing_fires_to program round fired now running node
-    (graphs.Splitter (graphs.Duplicate carried)) fields seen shows wired f r is sees ins reads =
+    (graphs.Splitter (graphs.Duplicate carried)) fields seen shows wired f r at is sees ins reads =
     leaves program round fired now running node seen shows wired f
-    (graphs.Splitter (graphs.Duplicate carried)) _ _ r
+    (graphs.Splitter (graphs.Duplicate carried)) _ _ at is r
     (λ from to. passes_fire program phase.Round node (graphs.Splitter (graphs.Duplicate carried))
     (fired node) fields seen from to running is sees ins reads)
 passing_fires_to program round fired now running node
-    (graphs.Splitter (graphs.Roundrobin weights)) fields seen shows wired f r is sees ins reads =
+    (graphs.Splitter (graphs.Roundrobin weights)) fields seen shows wired f r at is sees ins reads =
     leaves program round fired now running node seen shows wired f
-    (graphs.Splitter (graphs.Roundrobin weights)) _ _ r
+    (graphs.Splitter (graphs.Roundrobin weights)) _ _ at is r
     (λ from to. passes_fire program phase.Round node (graphs.Splitter (graphs.Roundrobin weights))
     (fired node) fields seen from to running is sees ins reads)
 passing_fires_to program round fired now running node (graphs.Joiner weights) fields
-    seen shows wired fronts reader is sees inputs reads =
+    seen shows wired fronts reader at is sees inputs reads =
     leaves program round fired now running node seen shows wired fronts
-    (graphs.Joiner weights) _ _ reader
+    (graphs.Joiner weights) _ _ at is reader
     (λ from to. passes_fire program phase.Round node (graphs.Joiner weights)
     (fired node) fields seen from to running is sees inputs reads)
 passing_fires_to program round fired now running node (graphs.Filter name filter) fields
-    seen shows wired fronts reader is sees inputs reads = absurd is
+    seen shows wired fronts reader at is sees inputs reads = absurd is
 passing_fires_to program round fired now running node (graphs.Scatter fission) fields
-    seen shows wired fronts reader is sees inputs reads = absurd is
+    seen shows wired fronts reader at is sees inputs reads = absurd is
 passing_fires_to program round fired now running node (graphs.Copy copied fission) fields
-    seen shows wired fronts reader is sees inputs reads = absurd is
+    seen shows wired fronts reader at is sees inputs reads = absurd is
 passing_fires_to program round fired now running node (graphs.Gather fission) fields
-    seen shows wired fronts reader is sees inputs reads = absurd is
+    seen shows wired fronts reader at is sees inputs reads = absurd is

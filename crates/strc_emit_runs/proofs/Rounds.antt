@@ -229,6 +229,7 @@ module _ (program : Program) (calls : List NodeCall) (is : AreRound program call
         (slice_get_within program.network.channels.now number channel at) at);
     ends = λ number channel at. omega (arith, lengths number channel at);
     fields = λ node slot lt. done.fields node slot ∙ shows.fields node slot lt;
+    counts = shows.counts;
     numbers = λ node. shows.numbers node ∙ omega (arith, is.all node);
     tapes = λ node. done.tapes node ∙ shows.tapes node;
     reads = λ node at. done.taken ∙ shows.reads node at;
@@ -242,7 +243,8 @@ rounds_go graph program most calls order steps are is round now running finds be
     (record left { round = running.round + 1 }))
     (fifo_go node_meaning graph order now) (calls_done program phase.Round calls running)
     (slides_done program phase.Round (length program.network.channels.now))
-    (calls_go graph program most steps round calls order (λ node. 0) now running are finds between)
+    (calls_go graph program most steps round calls order (λ node. 0) now running
+    (λ node. omega arith) are finds between)
     (λ after left shows.
     let done = slide_all program calls is after round left shows
     (length program.network.channels.now) in

@@ -1,6 +1,6 @@
 -- A firing that leaves what it has to keeps the program where the machine over queues is.
 use Rattle.std.proofs.Common.{◌≡◌, ℕ, suc, ◌+◌, ◌*◌, ◌<◌, ◌≤◌, ℤ, pos, Bool, true, false, cond}
-use Rattle.std.proofs.Common.{List, [], ◌++◌, length, drop, Some, refl, sym, ap, ◌∙◌}
+use Rattle.std.proofs.Common.{List, [], ◌++◌, length, drop, Option, Some, refl, sym, ap, ◌∙◌}
 use Rattle.std.proofs.Common.{subst, arith}
 use Rattle.std.proofs.Common.{◌==◌, eqb, ◌⊎◌, inl, inr, length-append, length-drop, get_or}
 use Rattle.std.specs.Prelude.{slice_get, slice_index}
@@ -8,6 +8,7 @@ use Rattle.std.proofs.lemmas.List.{append-nil, drop-drop}
 use Rattle.std.proofs.lemmas.Bool.{cases_eq, eq-eqb, ne_eqb, eqb-true, eqb-false}
 use Rattle.strc_work_meaning.specs.declared.fault.Cause.{Cause}
 use Rattle.strc_work_meaning.specs.declared.word.Word.{Word}
+use Rattle.strc_work_meaning.specs.Filters.{Filter}
 use Rattle.strc_elab_dataflow.specs.Flat as flat
 use Rattle.strc_elab_dataflow.specs.Histories.{Run, after_firing}
 use Rattle.strc_elab_dataflow.specs.Machine.{put}
@@ -15,12 +16,13 @@ use Rattle.strc_elab_dataflow.specs.Node.{ByPort, Fired.Fires}
 use Rattle.strc_elab_dataflow.specs.Queues.{fifo_after, moved, added}
 use Rattle.strc_elab_graph.specs.declared.graph.Channel.{Channel}
 use Rattle.strc_elab_graph.specs.Graphs.{NodeCode}
+use Rattle.strc_elab_graph.specs.Graphs as graphs
 use Rattle.strc_elab_graph.specs.Meaning.{node_meaning}
 use Rattle.strc_elab_graph.specs.Rates.{pops_at}
 use Rattle.strc_emit_c.specs.Meaning.{Field}
 use Rattle.strc_emit_moves.specs.declared.places.Phase.TheVariants as phase
 use Rattle.strc_emit_moves.specs.Places.{pops_of, pushes_of}
-use Rattle.strc_emit_runs.specs.Running.{Program, Running, firing_number}
+use Rattle.strc_emit_runs.specs.Running.{Program, Running, firing_number, code_at}
 use Rattle.strc_emit_runs.specs.Windows.{StandFrom}
 use Rattle.strc_emit_runs.specs.Orders.{Queues, RoundShows, items_begin, items_end}
 use Rattle.strc_emit_runs.specs.Orders.{reader_from, fired_on}
@@ -215,6 +217,7 @@ steps_show graph program round fired now running after node state pushes printed
           ∙ ends_are graph program round fired now running after node state pushes printed shows
           takes fires number channel at;
       fields = λ other slot. fields_by other slot (eqb other node) refl;
+      counts = λ other name filter at. counts_by other name filter at (eqb other node) refl;
       numbers = λ other. numbers_by other (eqb other node) refl;
       tapes = λ other. tapes_by other (eqb other node) refl;
       reads = λ other at. reads_by other at (eqb other node) refl;
@@ -232,6 +235,17 @@ steps_show graph program round fired now running after node state pushes printed
         ap (λ n. after.cells (Field n slot)) (eqb-true other node e) ∙ fires.own slot lt
     fields_by other slot false e lt =
         fires.others other slot (eqb-false other node e) ∙ shows.fields other slot lt
+
+    counts_by : (other : ℕ) (name : Option (List ℕ)) (filter : Filter)
+        → code_at program other ≡ Some (graphs.Filter name filter) → (t : Bool)
+        → eqb other node ≡ t
+        → length (cond t ran (now.runs other)).state
+        ≡ (program.functions other).work.function.fields
+    counts_by other name filter at true e =
+        let same : other ≡ node = eqb-true other node e in
+        fires.count name filter (ap (code_at program) (sym same) ∙ at)
+        ∙ ap (λ n. (program.functions n).work.function.fields) (sym same)
+    counts_by other name filter at false e = shows.counts other name filter at
 
     numbers_by : (other : ℕ) (t : Bool) → eqb other node ≡ t
         → (cond t ran (now.runs other)).fired

@@ -229,6 +229,7 @@ module _ (program : Program) (round : ℕ) (times : ℕ → ℕ) (now : Queues) 
         (given_at program.network phase.Round node 0) refl);
     own = λ slot lt. b.shows.fields slot (omega (arith, lt, b.shows.count));
     others = λ other slot differ. b.shows.kept (Field other slot) (ne_eqb other node differ);
+    count = λ name own at. b.shows.count;
     tape = b.shows.words;
     tapes = b.tapes;
     reads = λ here. absurd (works.no_reader here);

@@ -1,6 +1,6 @@
 -- A firing in a round goes in C as over queues: a filter's, and that of a node that only passes
 -- items on.
-use Rattle.std.specs.Prelude.{◌≡◌, ℕ, ◌<◌, List, [], ℤ, Option, true, Ok}
+use Rattle.std.specs.Prelude.{◌≡◌, ℕ, ◌<◌, List, [], ℤ, Option, Some, true, Ok}
 use Rattle.strc_parse_tree.specs.declared.tree.FilterTree.{FilterTree}
 use Rattle.strc_work_meaning.specs.declared.body.Body.TheVariants as body
 use Rattle.strc_work_meaning.specs.Filters.{filter_of}
@@ -13,7 +13,7 @@ use Rattle.strc_elab_graph.specs.Meaning.{node_meaning, node_fired}
 use Rattle.strc_elab_graph.specs.Rates.{body_at}
 use Rattle.strc_emit_moves.specs.declared.places.Phase.TheVariants as phase
 use Rattle.strc_emit_passes.specs.Passing.{IsPassing, SeesWindows, HasInputs, ReadsNext, GivesBy}
-use Rattle.strc_emit_runs.specs.Running.{Program, Running, firing_of}
+use Rattle.strc_emit_runs.specs.Running.{Program, Running, firing_of, code_at}
 use Rattle.strc_emit_runs.specs.Works.{HasFilter}
 use Rattle.strc_emit_runs.specs.Orders.{Queues, Goes, RoundShows, fired_on}
 use Rattle.strc_emit_runs.specs.Steps.{TakesThere}
@@ -60,7 +60,8 @@ PassingGo =
     → holds node_meaning graph node (now.runs node).fired (now.queues node) ≡ true
     → RoundShows program round times now running → IsWired program node times
     → SeesFronts now node (seen_at graph now node) → ReadsAsReader program node code
-    → IsPassing code → SeesWindows code (seen_at graph now node)
+    → code_at program node ≡ Some code → IsPassing code
+    → SeesWindows code (seen_at graph now node)
     → HasInputs program.network phase.Round node code
     → ReadsNext code (seen_at graph now node) program.input running.taken
     → TakesThere graph program now node

@@ -6,6 +6,7 @@ use Rattle.std.specs.Prelude.{length, replicate, Option, Some, None, Result, Ok,
 use Rattle.std.specs.Prelude.{slice_get, slice_index, slice_index_or, if◌then◌else◌}
 use Rattle.strc_work_meaning.specs.declared.fault.Cause.{Cause}
 use Rattle.strc_work_meaning.specs.declared.word.Word.{Word}
+use Rattle.strc_work_meaning.specs.Filters.{Filter}
 use Rattle.strc_elab_dataflow.specs.Answer.{Outcome, Outcome.Done, Outcome.StartupFault}
 use Rattle.strc_elab_dataflow.specs.Answer.{Outcome.RoundFault}
 use Rattle.strc_elab_dataflow.specs.Flat as flat
@@ -14,6 +15,7 @@ use Rattle.strc_elab_dataflow.specs.Queues.{FifoProgress.FifoStopped, fifo_go, f
 use Rattle.strc_elab_graph.specs.declared.graph.Channel.{Channel}
 use Rattle.strc_elab_graph.specs.declared.graph.Node.{Node}
 use Rattle.strc_elab_graph.specs.Graphs.{NodeCode, reads_input}
+use Rattle.strc_elab_graph.specs.Graphs as graphs
 use Rattle.strc_elab_graph.specs.Meaning.{node_meaning}
 use Rattle.strc_elab_graph.specs.NodeView.{node_view}
 use Rattle.strc_emit_c.specs.Meaning.{Field}
@@ -60,8 +62,8 @@ items_end program number channel fired = slice_index program.network.left.now nu
     * fired channel.source.node
 
 -- a program is where the machine over queues is: each channel's queue stands in its array, nodes
--- have their fields and their words, and the input is read as far as its reader has fired: what is
--- left of it is the reader's queue
+-- have their fields, as many as their functions have, and their words, and the input is read as
+-- far as its reader has fired: what is left of it is the reader's queue
 pub record RoundShows (program : Program) (round : ℕ) (fired : ℕ → ℕ) (now : Queues)
     (running : Running) : Type 0 where
   pub round_is : running.round ≡ round
@@ -76,6 +78,9 @@ pub record RoundShows (program : Program) (round : ℕ) (fired : ℕ → ℕ) (n
       ≡ items_end program number channel fired
   pub fields : (node slot : ℕ) → slot < length (now.runs node).state
       → running.cells (Field node slot) ≡ slice_index_or (now.runs node).state slot (pos 0)
+  pub counts : (node : ℕ) (name : Option (List ℕ)) (filter : Filter)
+      → code_at program node ≡ Some (graphs.Filter name filter)
+      → length (now.runs node).state ≡ (program.functions node).work.function.fields
   pub numbers : (node : ℕ) → (now.runs node).fired
       ≡ firing_number program phase.Round node (fired node) round
   pub tapes : (node : ℕ) → running.tapes node ≡ (now.runs node).words
@@ -102,12 +107,16 @@ FindsInRounds graph order zero now = Unit {0}
 FindsInRounds graph order (suc left) now = FindsAlong graph order now
     × IfWent (FindsInRounds graph order left) (fifo_go node_meaning graph order now)
 
+-- nodes have fired no more often than this
+abbrev pub AreWithin : (most fired : ℕ → ℕ) → Type 0
+AreWithin most fired = (node : ℕ) → fired node ≤ most node
+
 -- a firing of a node that has firings left in the round, and finds its windows, goes in C as over
 -- queues
 abbrev pub FiringsGo : flat.Graph NodeCode → Program → (most : ℕ → ℕ) → Type 0
 FiringsGo graph program most =
     (round : ℕ) (fired : ℕ → ℕ) (now : Queues) (running : Running) (node : ℕ) (code : NodeCode)
-    → code_at program node ≡ Some code → fired node < most node
+    → code_at program node ≡ Some code → AreWithin most fired → fired node < most node
     → holds node_meaning graph node (now.runs node).fired (now.queues node) ≡ true
     → RoundShows program round fired now running
     → Goes (RoundShows program round (fired_on fired node 1))
@@ -135,7 +144,8 @@ OrdersGo =
     → FiringsGo graph program most
     → (calls : List NodeCall) (order : List ℕ) (round : ℕ) (fired : ℕ → ℕ) (now : Queues)
     (running : Running)
-    → AreCallsOf program most fired calls order → FindsAlong graph order now
+    → AreWithin most fired → AreCallsOf program most fired calls order
+    → FindsAlong graph order now
     → RoundShows program round fired now running
     → Goes (RoundShows program round (fired_after fired calls))
     (fifo_go node_meaning graph order now)

@@ -10,7 +10,7 @@ use Rattle.strc_emit_moves.specs.declared.places.Phase.TheVariants as phase
 use Rattle.strc_emit_moves.specs.Places.{taken_at, given_at, pops_of, pushes_of}
 use Rattle.strc_emit_passes.specs.Passing.{IsPassing, SeesWindows, HasInputs, ReadsNext, GivesBy}
 use Rattle.strc_emit_passes.specs.Passing.{numbers_taken}
-use Rattle.strc_emit_runs.specs.Running.{Program, Running, rooms_in, node_done}
+use Rattle.strc_emit_runs.specs.Running.{Program, Running, rooms_in, node_done, code_at}
 use Rattle.strc_emit_runs.specs.Orders.{Queues, RoundShows, items_end, reader_from, fired_on}
 use Rattle.strc_emit_runs.specs.Steps.{FiresTo}
 
@@ -81,7 +81,8 @@ PassingFiresTo =
     (code : NodeCode) (fields : List ℤ) (seen : ByPort)
     → RoundShows program round fired now running → IsWired program node fired
     → SeesFronts now node seen → ReadsAsReader program node code
-    → IsPassing code → SeesWindows code seen → HasInputs program.network phase.Round node code
+    → code_at program node ≡ Some code → IsPassing code → SeesWindows code seen
+    → HasInputs program.network phase.Round node code
     → ReadsNext code seen program.input running.taken
     → GivesBy (node_fired code 0 fields seen) (λ pushes printed.
     GivesRates program node pushes

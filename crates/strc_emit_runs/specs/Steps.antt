@@ -1,17 +1,20 @@
 -- What a firing in C has to leave, for the program to be where the machine over queues is after it.
-use Rattle.std.specs.Prelude.{◌≡◌, ℕ, ◌+◌, ◌<◌, ◌≤◌, ℤ, pos, List, ◌++◌, length, Some, Ok}
+use Rattle.std.specs.Prelude.{◌≡◌, ℕ, ◌+◌, ◌<◌, ◌≤◌, ℤ, pos, List, ◌++◌, length, Option, Some}
+use Rattle.std.specs.Prelude.{Ok}
 use Rattle.std.specs.Prelude.{slice_get, slice_index_or}
 use Rattle.strc_work_meaning.specs.declared.word.Word.{Word}
+use Rattle.strc_work_meaning.specs.Filters.{Filter}
 use Rattle.strc_elab_dataflow.specs.Flat as flat
 use Rattle.strc_elab_dataflow.specs.Node.{ByPort, Fired.Fires}
 use Rattle.strc_elab_dataflow.specs.Queues.{fifo_after}
 use Rattle.strc_elab_graph.specs.declared.graph.Channel.{Channel}
 use Rattle.strc_elab_graph.specs.Graphs.{NodeCode}
+use Rattle.strc_elab_graph.specs.Graphs as graphs
 use Rattle.strc_elab_graph.specs.Meaning.{node_meaning}
 use Rattle.strc_elab_graph.specs.Rates.{pops_at}
 use Rattle.strc_emit_c.specs.Meaning.{Field, Item}
 use Rattle.strc_emit_moves.specs.Places.{pops_of, pushes_of}
-use Rattle.strc_emit_runs.specs.Running.{Program, Running}
+use Rattle.strc_emit_runs.specs.Running.{Program, Running, code_at}
 use Rattle.strc_emit_runs.specs.Windows.{StandFrom}
 use Rattle.strc_emit_runs.specs.Orders.{Queues, Goes, RoundShows, items_end, reader_from, fired_on}
 
@@ -37,6 +40,9 @@ pub record FiresTo (program : Program) (node : ℕ) (fired : ℕ → ℕ) (state
       → after.cells (Field node slot) ≡ slice_index_or state slot (pos 0)
   pub others : (other slot : ℕ) → (other ≡ node → ⊥)
       → after.cells (Field other slot) ≡ before.cells (Field other slot)
+  pub count : (name : Option (List ℕ)) (filter : Filter)
+      → code_at program node ≡ Some (graphs.Filter name filter)
+      → length state ≡ (program.functions node).work.function.fields
   pub tape : after.tapes node ≡ before.tapes node ++ printed
   pub tapes : (other : ℕ) → (other ≡ node → ⊥) → after.tapes other ≡ before.tapes other
   pub reads : reader_from 0 program.network.nodes.now ≡ Some node
