@@ -1,12 +1,14 @@
 -- Where a run over rings wants memory: only at a word.
 use Rattle.std.specs.Prelude.{◌≡◌, ◌≢◌, ℕ, List, ◌∷◌, ◌++◌, All, Bool, true, false}
-use Rattle.std.specs.Prelude.{Option, Some, None, Result, Ok, Err, slice_get, slice_index}
+use Rattle.std.specs.Prelude.{Option, Some, None, Result, Ok, Err, map, slice_get, slice_index}
+use Rattle.std.specs.Vec.{vec_capacity}
 use Rattle.strc_work_meaning.specs.Filters.{body_prints}
 use Rattle.strc_elab_graph.specs.Graphs as graphs
 use Rattle.strc_elab_graph.specs.Graphs.{NodeCode, CopiedCode}
 use Rattle.strc_elab_graph.specs.Rates.{body_at}
 use Rattle.strc_sched_laws.specs.Machine.{CircuitView, MachineView, Went, next_step, order_run}
 use Rattle.strc_sched_rings.specs.Words.{HasNextWord}
+use Rattle.strc_sched_machine.specs.declared.machine.Machine.{Machine}
 use Rattle.strc_sched_machine.specs.declared.machine.Stop.{Stop}
 use Rattle.strc_sched_machine.specs.declared.machine.Stop.TheVariants as stop
 
@@ -60,3 +62,7 @@ abbrev pub QuietOrdersWantNoMemory : Type 0
 QuietOrdersWantNoMemory = (circuit : CircuitView) (order : List ℕ) (before : MachineView)
     (result : Result (Unit {0}) Stop) → AreQuiet circuit order
     → WantsWordOfOrder circuit order before result → result ≢ Err stop.NoMemory
+
+-- how many words of each node a machine has memory for
+abbrev pub word_rooms : Machine → List ℕ
+word_rooms machine = map vec_capacity machine.words.items

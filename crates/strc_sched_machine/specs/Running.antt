@@ -1,5 +1,5 @@
 -- How the machine over rings answers.
-use Rattle.std.specs.Prelude.{◌≡◌, ℕ, ℤ, List, Bool, true, false, length, map}
+use Rattle.std.specs.Prelude.{◌≡◌, ℕ, ℤ, List, [], Bool, true, false, length, map}
 use Rattle.std.specs.Prelude.{slice_set, Result, Ok, Err}
 use Rattle.std.specs.declared.vec.Vec.{Vec}
 use Rattle.std.specs.declared.alloc.Global.{Global}
@@ -22,6 +22,10 @@ use Rattle.strc_sched_machine.specs.declared.machine.Stop.TheVariants as stop
 abbrev pub words_of : List (Vec Word Global) → List (List Word)
 words_of all = map (λ words. words.items) all
 
+-- none of any node
+abbrev pub without_words : List (List Word) → List (List Word)
+without_words all = map (λ (words : List Word). []) all
+
 abbrev pub machine_view : Machine → MachineView
 machine_view machine = record {
   fields = map fields_of machine.actors.items;
@@ -30,12 +34,20 @@ machine_view machine = record {
   words = words_of machine.words.items;
 }
 
--- the same with other rings, or with other words
+-- the same with other rings, with other numbers of firings, or with other words
 abbrev pub with_rings : List Ring → MachineView → MachineView
 with_rings rings machine = record {
   fields = machine.fields;
   fired = machine.fired;
   rings = rings;
+  words = machine.words;
+}
+
+abbrev pub with_fired : List ℕ → MachineView → MachineView
+with_fired fired machine = record {
+  fields = machine.fields;
+  fired = fired;
+  rings = machine.rings;
   words = machine.words;
 }
 

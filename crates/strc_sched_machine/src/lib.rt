@@ -22,6 +22,7 @@ pub mod lanes;
 pub mod laws;
 pub mod machine;
 mod part_machine;
+mod renewed_machine;
 mod stateless_nodes;
 
 pub use strc_sched_rings::{circuit, units};
