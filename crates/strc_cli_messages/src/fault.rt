@@ -195,7 +195,7 @@ pub fn not_run_message(alloc: Global, file: &str, refusal: RunRefusal) -> Result
     let mut message = Message::new(alloc);
     match refusal {
         RunRefusal::InputShort { need, got } => {
-            message.add(b"these rounds read ")?;
+            message.add(b"start-up and the rounds that are asked for read ")?;
             message.number(need)?;
             message.add(b" numbers, and the input has ")?;
             message.number(got)?;

@@ -1,36 +1,49 @@
 // Hints on how a refusal can be mended.
 
+use crate::foreign_words::foreign_hint;
+use crate::marked_tokens::{block_has, compares_bits, looks_back};
 use crate::mismatches::mismatch_hint;
+use crate::number_hints::push_number_hint;
+use crate::syntax_hints::push_syntax_hint;
 use strc_cli_places::known::Known;
 use strc_cli_source::message::Message;
 use strc_cli_source::nearest::nearest_name;
 use strc_cli_source::source::Source;
-use strc_cli_source::tokens::is_mark;
-use strc_lex::token::{Keyword, Punctuation, TokenKind};
+use strc_cli_source::spelling::begins;
+use strc_lex::token::Keyword;
 use strc_lex_names::memory::NoMemory;
+use strc_lex_names::place::Span;
 use strc_run_refusal::refusal::Refusal;
-use strc_work_rules::site::Site;
+use strc_work_meaning::types::ValueType;
+use strc_work_rules::site::{Mismatch, Part, Site};
 
-/// A hint, where there is one that helps.
+/// A hint, where there is one that helps, of a refusal whose message marks this place.
 pub(crate) fn push_hint(
     message: &mut Message,
     known: Known<'_>,
     refusal: &Refusal,
     site: Site,
+    place: Option<Span>,
 ) -> Result<(), NoMemory> {
     match refusal {
         Refusal::UnknownName { name } => push_nearest(message, known, name.as_bytes()),
-        Refusal::Parse { token } => push_words(message, syntax_hint(known.source, *token)),
+        Refusal::Lex { at } => push_number_hint(message, known.source.text, *at),
+        Refusal::Parse { token } => push_syntax_hint(message, known.source, *token),
         Refusal::TypeMismatch { .. } => match site.mismatch {
-            Some(mismatch) => push_words(message, mismatch_hint(mismatch)),
+            Some(mismatch) => {
+                push_words(message, mismatch_hint_at(known.source, mismatch, site.place))
+            }
             None => Ok(()),
         },
+        Refusal::PeekOutside { .. } if looks_back(known.source, place) => {
+            push_words(message, b"there is no look back: a field keeps what was popped")
+        }
         refusal => push_words(message, hint_of(refusal)),
     }
 }
 
 /// A hint in these words, if there are any.
-fn push_words(message: &mut Message, hint: &[u8]) -> Result<(), NoMemory> {
+pub(crate) fn push_words(message: &mut Message, hint: &[u8]) -> Result<(), NoMemory> {
     if hint.is_empty() {
         return Ok(());
     }
@@ -38,34 +51,37 @@ fn push_words(message: &mut Message, hint: &[u8]) -> Result<(), NoMemory> {
     Ok(message.add(hint)?)
 }
 
-/// How a token can be mended that can't stand where it is.
-fn syntax_hint(source: Source<'_>, token: usize) -> &'static [u8] {
-    let Some(found) = source.tokens.get(token) else {
-        return b"";
-    };
-    match &found.kind {
-        TokenKind::Punctuation(Punctuation::Assign) => b"two values are compared by `==`",
-        TokenKind::Punctuation(Punctuation::Arrow) => b"a stream before this one may lack a `}`",
-        TokenKind::Punctuation(Punctuation::OpenBrace) if follows_assign(source, token) => {
-            b"the elements of an array are 0 at first, and init can set them"
+/// How a broken rule on types, kinds and parts can be mended, at this place.
+fn mismatch_hint_at(
+    source: Source<'_>,
+    mismatch: Mismatch,
+    place: Option<Span>,
+) -> &'static [u8] {
+    match (mismatch, place) {
+        (Mismatch::Value(ValueType::Int, ValueType::Boolean), Some(place))
+        | (Mismatch::Value(ValueType::Boolean, ValueType::Int), Some(place))
+            if compares_bits(source, place) =>
+        {
+            b"a comparison goes before `&`, `^` and `|`: write `(x & 1) == 0`"
         }
-        TokenKind::Keyword(Keyword::Return) => b"a filter gives an item by `push`",
-        TokenKind::Keyword(Keyword::Float | Keyword::Bit) =>
-            b"items are `int`; a variable may also be `boolean`",
-        _ => b"",
+        (Mismatch::Missing(_, Part::Add), Some(place))
+            if block_has(source, place.start, Keyword::Add) =>
+        {
+            b"with these arguments no statement adds a stream: `add Identity<int>();` passes items on"
+        }
+        (Mismatch::NoCalls, Some(place)) if begins(source, place, b"setDelay") => {
+            foreign_hint(b"setDelay")
+        }
+        _ => mismatch_hint(mismatch),
     }
 }
 
-/// Whether the token before one is `=`.
-fn follows_assign(source: Source<'_>, token: usize) -> bool {
-    match source.tokens.get(token.saturating_sub(1)) {
-        Some(before) => is_mark(before, Punctuation::Assign),
-        None => false,
-    }
-}
-
-/// The declared name that is most like one that isn't.
+/// The declared name that is most like one that isn't, or what stands for a foreign one.
 fn push_nearest(message: &mut Message, known: Known<'_>, name: &[u8]) -> Result<(), NoMemory> {
+    let foreign = foreign_hint(name);
+    if !foreign.is_empty() {
+        return push_words(message, foreign);
+    }
     match nearest_name(known.alloc, known.source.tokens, name)? {
         Some(nearest) => {
             message.hint()?;

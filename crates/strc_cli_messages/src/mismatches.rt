@@ -1,9 +1,11 @@
 // What is said of a broken rule on types, kinds and parts.
 
+use crate::marked_tokens::block_has;
 use std::alloc::AllocError;
 use strc_cli_places::known::Known;
 use strc_cli_places::places::{kind_keyword, part_keyword};
 use strc_cli_source::message::Message;
+use strc_lex::token::Keyword;
 use strc_lex_names::place::Span;
 use strc_parse_tree::tree::CompositeKind;
 use strc_work_meaning::types::ValueType;
@@ -32,6 +34,11 @@ pub(crate) fn push_mismatch(
             push_kind(message, b"this ", kind)?;
             push_part(message, b" has a second ", part)
         }
+        Mismatch::Missing(kind, Part::Add) if has_add(known, place) => {
+            message.add(b"no `add` of this ")?;
+            message.add(kind_keyword(kind).text())?;
+            message.add(b" has run")
+        }
         Mismatch::Missing(kind, part) => {
             push_kind(message, b"this ", kind)?;
             push_part(message, b" has no ", part)
@@ -42,6 +49,14 @@ pub(crate) fn push_mismatch(
             message.add(found_words(found))
         }
         _ => message.add(plain_rule(mismatch)),
+    }
+}
+
+/// Whether the block of the stream at a place has an `add`.
+fn has_add(known: Known<'_>, place: Option<Span>) -> bool {
+    match place {
+        Some(place) => block_has(known.source, place.start, Keyword::Add),
+        None => false,
     }
 }
 

@@ -164,7 +164,7 @@ fn pair_hint(refusal: &Refusal) -> &'static [u8] {
 }
 
 /// Where the first part is.
-fn push_place(
+pub(crate) fn push_place(
     message: &mut Message,
     source: Source<'_>,
     place: Option<Span>,

@@ -117,7 +117,7 @@ fn write_at(known: Known<'_>, refusal: &Refusal, site: Site) -> Result<Vec<u8>, 
     let mut message = Message::new(known.alloc);
     push_sentence(&mut message, known, refusal, site, place)?;
     known.source.excerpt(&mut message, place)?;
-    push_hint(&mut message, known, refusal, site)?;
+    push_hint(&mut message, known, refusal, site, place)?;
     known.source.message(known.alloc, place, message)
 }
 

@@ -30,9 +30,37 @@ fn lexical_sentence(text: &[u8], at: usize) -> &'static [u8] {
     match text.get(at) {
         Some(b'"') => b"this string isn't closed on its line, or has a backslash in it",
         Some(b'/') => b"this comment is never closed",
+        Some(b'.') if is_before_letter(text, at) => b"nothing has parts that are named by a `.`",
         Some(b'.') => b"numbers have no decimal point: items are integers",
         Some(b'0'..=b'9') => b"this isn't a number from 0 to 2147483648 without needless zeros",
+        Some(b'#') if begins_line(text, at) => b"there is no preprocessor, and no token begins with `#`",
+        Some(b'\'') => b"a character is written as its number",
+        Some(0xef) if is_order_mark(text, at) => {
+            b"a byte order mark is no part of a program: keep the text as UTF-8 without one"
+        }
+        Some(128..=255) => b"names are made of the letters a to z, A to Z, digits and `_`",
         _ => b"no token begins like this",
+    }
+}
+
+/// Whether these are the three bytes of a byte order mark.
+fn is_order_mark(text: &[u8], at: usize) -> bool {
+    at == 0 && text.get(1) == Some(&0xbb) && text.get(2) == Some(&0xbf)
+}
+
+/// Whether a byte is the first one of its line.
+fn begins_line(text: &[u8], at: usize) -> bool {
+    match at.checked_sub(1) {
+        Some(last) => text.get(last) == Some(&b'\n'),
+        None => true,
+    }
+}
+
+/// Whether a letter is behind a byte.
+fn is_before_letter(text: &[u8], at: usize) -> bool {
+    match text.get(at.saturating_add(1)) {
+        Some(b'a'..=b'z' | b'A'..=b'Z') => true,
+        _ => false,
     }
 }
 

@@ -1,0 +1,242 @@
+// Hints on a token that can't stand where it is, by what people type who know C or other forms of
+// StreamIt.
+
+use crate::foreign_words::{MESSAGES, STRUCTURES, foreign_hint};
+use crate::hints::push_words;
+use crate::marked_tokens::is_bitwise;
+use crate::open_braces::{is_outside, push_open_brace};
+use strc_cli_source::message::Message;
+use strc_cli_source::source::Source;
+use strc_cli_source::tokens::{is_keyword, is_mark};
+use strc_lex::token::{Keyword, Punctuation, Token, TokenKind};
+use strc_lex_names::memory::NoMemory;
+
+/// A hint on a token, by its number, that can't stand where it is; past the last one, on a text
+/// that ends too soon.
+pub(crate) fn push_syntax_hint(
+    message: &mut Message,
+    source: Source<'_>,
+    number: usize,
+) -> Result<(), NoMemory> {
+    let Some(found) = source.tokens.get(number) else {
+        return push_open_brace(message, source, number);
+    };
+    let hint = token_hint(source, number, found);
+    if hint.is_empty() && can_follow_a_stream(found) {
+        return push_open_brace(message, source, number);
+    }
+    push_words(message, hint)
+}
+
+/// Whether a token begins a part of a filter, or stands in the head of a stream: where it is found
+/// in a block, the block has no end.
+fn can_follow_a_stream(found: &Token) -> bool {
+    match found.kind {
+        TokenKind::Keyword(keyword) => begins_part(keyword),
+        TokenKind::Punctuation(mark) => mark == Punctuation::Arrow,
+        _ => false,
+    }
+}
+
+fn begins_part(keyword: Keyword) -> bool {
+    match keyword {
+        Keyword::Filter
+        | Keyword::Pipeline
+        | Keyword::Splitjoin
+        | Keyword::Feedbackloop
+        | Keyword::Init
+        | Keyword::Prework
+        | Keyword::Work
+        | Keyword::Void => true,
+        _ => false,
+    }
+}
+
+/// How a token can be mended that can't stand where it is; nothing where that isn't known.
+fn token_hint(source: Source<'_>, number: usize, found: &Token) -> &'static [u8] {
+    match &found.kind {
+        TokenKind::Punctuation(mark) => mark_hint(source, number, *mark),
+        TokenKind::Keyword(keyword) => keyword_hint(source, number, *keyword),
+        TokenKind::Name(name) => word_hint(source, number, name.as_bytes()),
+        TokenKind::StringLiteral(_) => or_else(before_hint(source, number), STRINGS),
+        TokenKind::Number(_) => before_hint(source, number),
+    }
+}
+
+/// How a name can be mended: it is a foreign word, or comes after one, or is that of a global.
+fn word_hint(source: Source<'_>, number: usize, word: &[u8]) -> &'static [u8] {
+    if has_type_before(source, number) && is_outside(source, number) {
+        return b"numbers and functions stand in streams; or the stream above has a `}` too many";
+    }
+    or_else(before_hint(source, number), foreign_hint(word))
+}
+
+/// What stands for the word before a token, or before its bracket, where that one is foreign.
+fn before_hint(source: Source<'_>, number: usize) -> &'static [u8] {
+    let end = if follows(source, number, Punctuation::OpenParen) {
+        number.saturating_sub(1)
+    } else {
+        number
+    };
+    match before(source, end) {
+        Some(token) => match &token.kind {
+            TokenKind::Name(name) => foreign_hint(name.as_bytes()),
+            _ => b"",
+        },
+        None => b"",
+    }
+}
+
+/// How a keyword can be mended.
+fn keyword_hint(source: Source<'_>, number: usize, keyword: Keyword) -> &'static [u8] {
+    match keyword {
+        Keyword::Break => b"a loop ends by its condition",
+        Keyword::Continue => b"an `if` round the rest of the body stands for it",
+        Keyword::Do => b"`while` stands for it",
+        Keyword::Return => b"a filter gives an item by `push`",
+        Keyword::Float | Keyword::Bit => b"items are `int`; a variable may also be `boolean`",
+        Keyword::Complex | Keyword::Struct => STRUCTURES.as_bytes(),
+        Keyword::Portal => MESSAGES.as_bytes(),
+        Keyword::Identity | Keyword::FileReader | Keyword::FileWriter => {
+            or_else(before_hint(source, number), b"a stream is added by `add`")
+        }
+        Keyword::Int if follows(source, number, Punctuation::OpenParen) => {
+            or_else(before_hint(source, number), b"all numbers are `int`, and nothing is cast")
+        }
+        Keyword::Duplicate => b"a join takes items in turn, by `roundrobin`",
+        Keyword::Boolean => b"parameters are `int`: 1 and 0 stand for true and false",
+        _ => before_hint(source, number),
+    }
+}
+
+/// A hint, or where there is none another one.
+fn or_else(hint: &'static [u8], other: &'static [u8]) -> &'static [u8] {
+    if hint.is_empty() { other } else { hint }
+}
+
+/// How a punctuation mark can be mended.
+fn mark_hint(source: Source<'_>, number: usize, mark: Punctuation) -> &'static [u8] {
+    match mark {
+        Punctuation::Assign => assign_hint(source, number),
+        Punctuation::OpenBracket => bracket_hint(source, number),
+        Punctuation::Star => star_hint(source, number),
+        Punctuation::OpenBrace if follows(source, number, Punctuation::Assign) => {
+            b"the elements of an array are 0 at first, and init can set them"
+        }
+        Punctuation::OpenBrace if follows(source, number, Punctuation::CloseParen) => {
+            b"`if`, `while` and `for` have a block"
+        }
+        Punctuation::CloseBrace if is_outside(source, number) => {
+            b"no `{` is open here: there is a `}` too many before it"
+        }
+        Punctuation::Greater if follows(source, number, Punctuation::ShiftRight) => {
+            b"`>>` keeps the sign: `(x >> n) & mask` takes it away"
+        }
+        Punctuation::Semicolon if follows(source, number, Punctuation::CloseBrace) => {
+            b"no `;` stands after the `}` of a block"
+        }
+        Punctuation::Colon => b"`for (int i = 0; i < n; i++)` counts up to n",
+        _ => b"",
+    }
+}
+
+/// How an assignment can be mended.
+fn assign_hint(source: Source<'_>, number: usize) -> &'static [u8] {
+    match before(source, number) {
+        Some(token) if is_uncombined(token) => {
+            b"only `+=`, `-=`, `*=`, `/=` and `%=` compute: `x = x << n` stands for `x <<= n`"
+        }
+        _ if assigns_before(source, number) => {
+            b"an assignment has no value: each is a statement of its own"
+        }
+        _ => b"two values are compared by `==`",
+    }
+}
+
+/// Whether a token is an operator that doesn't go with `=`.
+fn is_uncombined(token: &Token) -> bool {
+    is_bitwise(token)
+        || is_mark(token, Punctuation::ShiftLeft)
+        || is_mark(token, Punctuation::ShiftRight)
+}
+
+/// Whether the statement of a token has an `=` before it.
+fn assigns_before(source: Source<'_>, number: usize) -> bool {
+    let earlier = &source.tokens[..number.min(source.tokens.len())];
+    match earlier.iter().rev().find(|it| is_mark(it, Punctuation::Assign) || ends_part(it)) {
+        Some(last) => is_mark(last, Punctuation::Assign),
+        None => false,
+    }
+}
+
+/// Whether a token ends a statement or begins a block.
+fn ends_part(token: &Token) -> bool {
+    is_mark(token, Punctuation::Semicolon)
+        || is_mark(token, Punctuation::OpenBrace)
+        || is_mark(token, Punctuation::CloseBrace)
+}
+
+/// How the type of an array can be mended.
+fn bracket_hint(source: Source<'_>, number: usize) -> &'static [u8] {
+    match before(source, number) {
+        Some(token) if is_rate(token) => RATES,
+        Some(token) if is_type(token) => {
+            b"parameters are numbers: init fills the arrays of a filter"
+        }
+        Some(token) if is_mark(token, Punctuation::CloseBracket) => {
+            b"arrays have one dimension: `a[i * n + j]`"
+        }
+        _ if has_type_before(source, number.saturating_sub(1)) => {
+            b"an array is declared as in `int[8] a`, in a filter; parameters are numbers"
+        }
+        _ => b"",
+    }
+}
+
+/// How a `*` can be mended.
+fn star_hint(source: Source<'_>, number: usize) -> &'static [u8] {
+    match before(source, number) {
+        Some(token) if is_rate(token) => RATES,
+        Some(token) if is_type(token) => b"there are no pointers: an array has its places by number",
+        Some(token) if is_mark(token, Punctuation::Star) => b"powers are computed by a loop",
+        _ => b"",
+    }
+}
+
+const STRINGS: &[u8] =
+    b"print and println write numbers; strings name the files of readers and writers";
+
+const RATES: &[u8] = b"rates are known before the run: one number each, and no range";
+
+/// Whether a token is the name of a rate.
+fn is_rate(token: &Token) -> bool {
+    is_keyword(token, Keyword::Push)
+        || is_keyword(token, Keyword::Pop)
+        || is_keyword(token, Keyword::Peek)
+}
+
+/// Whether a token is the name of a type.
+fn is_type(token: &Token) -> bool {
+    is_keyword(token, Keyword::Int) || is_keyword(token, Keyword::Boolean)
+}
+
+/// Whether a type is before a token.
+fn has_type_before(source: Source<'_>, number: usize) -> bool {
+    match before(source, number) {
+        Some(token) => is_type(token) || is_keyword(token, Keyword::Void),
+        None => false,
+    }
+}
+
+/// Whether the token before one is this mark.
+fn follows(source: Source<'_>, number: usize, mark: Punctuation) -> bool {
+    match before(source, number) {
+        Some(token) => is_mark(token, mark),
+        None => false,
+    }
+}
+
+/// The token before one.
+fn before(source: Source<'_>, number: usize) -> Option<&Token> {
+    source.tokens.get(number.checked_sub(1)?)
+}
