@@ -1,15 +1,16 @@
 // Hints on how a refusal can be mended.
 
-use crate::foreign_words::foreign_hint;
 use crate::marked_tokens::{block_has, compares_bits, looks_back};
 use crate::mismatches::mismatch_hint;
-use crate::number_hints::push_number_hint;
-use crate::syntax_hints::push_syntax_hint;
 use strc_cli_places::known::Known;
 use strc_cli_source::message::Message;
 use strc_cli_source::nearest::nearest_name;
 use strc_cli_source::source::Source;
 use strc_cli_source::spelling::begins;
+use strc_cli_syntax::foreign_words::{DELAYS, push_foreign_hint};
+use strc_cli_syntax::hint_words::push_words;
+use strc_cli_syntax::number_hints::push_number_hint;
+use strc_cli_syntax::syntax_hints::push_syntax_hint;
 use strc_lex::token::Keyword;
 use strc_lex_names::memory::NoMemory;
 use strc_lex_names::place::Span;
@@ -31,46 +32,37 @@ pub(crate) fn push_hint(
         Refusal::Parse { token } => push_syntax_hint(message, known.source, *token),
         Refusal::TypeMismatch { .. } => match site.mismatch {
             Some(mismatch) => {
-                push_words(message, mismatch_hint_at(known.source, mismatch, site.place))
+                push_words(
+                    message,
+                    mismatch_hint_at(known.source, mismatch, site.place),
+                )
             }
             None => Ok(()),
         },
         Refusal::PeekOutside { .. } if looks_back(known.source, place) => {
-            push_words(message, b"there is no look back: a field keeps what was popped")
+            push_words(
+                message,
+                b"there is no look back: a field keeps what was popped",
+            )
         }
         refusal => push_words(message, hint_of(refusal)),
     }
 }
 
-/// A hint in these words, if there are any.
-pub(crate) fn push_words(message: &mut Message, hint: &[u8]) -> Result<(), NoMemory> {
-    if hint.is_empty() {
-        return Ok(());
-    }
-    message.hint()?;
-    Ok(message.add(hint)?)
-}
-
 /// How a broken rule on types, kinds and parts can be mended, at this place.
-fn mismatch_hint_at(
-    source: Source<'_>,
-    mismatch: Mismatch,
-    place: Option<Span>,
-) -> &'static [u8] {
+fn mismatch_hint_at(source: Source<'_>, mismatch: Mismatch, place: Option<Span>) -> &'static [u8] {
     match (mismatch, place) {
         (Mismatch::Value(ValueType::Int, ValueType::Boolean), Some(place))
         | (Mismatch::Value(ValueType::Boolean, ValueType::Int), Some(place))
-            if compares_bits(source, place) =>
-        {
+            if compares_bits(source, place) => {
             b"a comparison goes before `&`, `^` and `|`: write `(x & 1) == 0`"
         }
         (Mismatch::Missing(_, Part::Add), Some(place))
-            if block_has(source, place.start, Keyword::Add) =>
-        {
+            if block_has(source, place.start, Keyword::Add) => {
             b"with these arguments no statement adds a stream: `add Identity<int>();` passes items on"
         }
         (Mismatch::NoCalls, Some(place)) if begins(source, place, b"setDelay") => {
-            foreign_hint(b"setDelay")
+            DELAYS.as_bytes()
         }
         _ => mismatch_hint(mismatch),
     }
@@ -78,9 +70,8 @@ fn mismatch_hint_at(
 
 /// The declared name that is most like one that isn't, or what stands for a foreign one.
 fn push_nearest(message: &mut Message, known: Known<'_>, name: &[u8]) -> Result<(), NoMemory> {
-    let foreign = foreign_hint(name);
-    if !foreign.is_empty() {
-        return push_words(message, foreign);
+    if push_foreign_hint(message, name)? {
+        return Ok(());
     }
     match nearest_name(known.alloc, known.source.tokens, name)? {
         Some(nearest) => {

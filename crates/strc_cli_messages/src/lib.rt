@@ -9,17 +9,11 @@
 // are broken.
 #![tactic(auto)]
 
-mod expected_tokens;
 pub mod fault;
-mod foreign_words;
 mod hints;
 mod marked_tokens;
 mod mismatches;
-mod number_hints;
-mod open_braces;
 mod pairs;
 pub mod refusal;
 mod sentences;
 mod site;
-mod syntax;
-mod syntax_hints;

@@ -2,13 +2,16 @@
 
 use strc_cli_source::source::Source;
 use strc_cli_source::tokens::{is_keyword, is_mark};
+use strc_cli_syntax::operators::is_bitwise;
 use strc_lex::token::{Keyword, Punctuation, Span, Token, TokenKind};
 
 /// Whether a part has both a bitwise operator and a comparison.
 pub(crate) fn compares_bits(source: Source<'_>, place: Span) -> bool {
     let tokens = source.tokens;
     tokens.iter().any(|it| is_in(it, place) && is_bitwise(it))
-        && tokens.iter().any(|it| is_in(it, place) && is_comparison(it))
+        && tokens
+            .iter()
+            .any(|it| is_in(it, place) && is_comparison(it))
 }
 
 /// Whether a peek in a part is at a place below 0.
@@ -56,13 +59,6 @@ pub(crate) fn block_has(source: Source<'_>, from: usize, keyword: Keyword) -> bo
 
 fn is_in(token: &Token, place: Span) -> bool {
     place.start <= token.span.start && token.span.end <= place.end
-}
-
-/// Whether a token is `&`, `^` or `|`.
-pub(crate) fn is_bitwise(token: &Token) -> bool {
-    is_mark(token, Punctuation::And)
-        || is_mark(token, Punctuation::Caret)
-        || is_mark(token, Punctuation::Or)
 }
 
 /// Whether a token compares two values.

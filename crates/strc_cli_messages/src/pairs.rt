@@ -11,9 +11,8 @@ use strc_cli_places::known::Known;
 use strc_cli_places::origins::statement_of;
 use strc_cli_places::pairs::pair_of;
 use strc_cli_source::message::Message;
-use strc_cli_source::place::place_of;
 use strc_cli_source::preorder::Preorder;
-use strc_cli_source::source::Source;
+use strc_cli_syntax::place_words::push_place;
 use strc_elab_statements::main_stream::can_be_main;
 use strc_lex_names::memory::NoMemory;
 use strc_lex_names::place::Span;
@@ -58,7 +57,7 @@ fn two_mains(known: Known<'_>) -> Result<Option<Vec<u8>>, NoMemory>
     message.quoted(second.name.as_bytes())?;
     message.add(b" could be the main stream, and so could ")?;
     message.quoted(first.name.as_bytes())?;
-    push_place(&mut message, source, known.place_of_name(first))?;
+    push_place(&mut message, source.text, known.place_of_name(first))?;
     source.excerpt(&mut message, place)?;
     message.hint()?;
     message.add(b"name the one that is to run with --main NAME")?;
@@ -101,7 +100,7 @@ fn two_of_a_name(known: Known<'_>, site: Site) -> Result<Option<Vec<u8>>, NoMemo
     let mut message = Message::new(known.alloc);
     message.quoted(source.bytes(second))?;
     message.add(b" is declared twice: here, and before it")?;
-    push_place(&mut message, source, first)?;
+    push_place(&mut message, source.text, first)?;
     source.excerpt(&mut message, Some(second))?;
     Ok(Some(source.message(known.alloc, Some(second), message)?))
 }
@@ -126,7 +125,7 @@ fn two_nodes(known: Known<'_>, refusal: &Refusal) -> Result<Option<Vec<u8>>, NoM
     order.push_name(&mut message, second)?;
     message.add(joining_words(refusal))?;
     order.push_name(&mut message, first)?;
-    push_place(&mut message, source, statement_of(known, first))?;
+    push_place(&mut message, source.text, statement_of(known, first))?;
     source.excerpt(&mut message, place)?;
     message.hint()?;
     message.add(pair_hint(refusal))?;
@@ -161,20 +160,4 @@ fn pair_hint(refusal: &Refusal) -> &'static [u8] {
         }
         _ => b"each stream has to take what the one before it gives, or give to the one after it",
     }
-}
-
-/// Where the first part is.
-pub(crate) fn push_place(
-    message: &mut Message,
-    source: Source<'_>,
-    place: Option<Span>,
-) -> Result<(), NoMemory> {
-    if let Some(part) = place {
-        let place = place_of(source.text, part.start);
-        message.add(b", in line ")?;
-        message.number(place.line as u64)?;
-        message.add(b", column ")?;
-        message.number(place.column as u64)?;
-    }
-    Ok(())
 }

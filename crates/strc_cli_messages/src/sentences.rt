@@ -33,7 +33,8 @@ fn lexical_sentence(text: &[u8], at: usize) -> &'static [u8] {
         Some(b'.') if is_before_letter(text, at) => b"nothing has parts that are named by a `.`",
         Some(b'.') => b"numbers have no decimal point: items are integers",
         Some(b'0'..=b'9') => b"this isn't a number from 0 to 2147483648 without needless zeros",
-        Some(b'#') if begins_line(text, at) => b"there is no preprocessor, and no token begins with `#`",
+        Some(b'#') if begins_line(text, at) =>
+            b"there is no preprocessor, and no token begins with `#`",
         Some(b'\'') => b"a character is written as its number",
         Some(0xef) if is_order_mark(text, at) => {
             b"a byte order mark is no part of a program: keep the text as UTF-8 without one"

@@ -49,10 +49,11 @@ abbrev pub tape_words : Option ℕ → List ℕ
 tape_words None = []
 tape_words (Some number) = codes "\\ntape " ++ decimal number
 
--- the beginning of a node's line, up to its name
+-- the beginning of a node's line, up to its number and its name
 abbrev pub name_words : (names : List (List ℕ)) → (node : ℕ) → List ℕ
 name_words names node =
-    codes "  n" ++ decimal node ++ codes " [label=\"" ++ slice_index_or names node []
+    codes "  n" ++ decimal node ++ codes " [label=\"" ++ decimal node ++ codes " "
+    ++ slice_index_or names node []
 
 -- how often it fires in a round and before the first one
 abbrev pub count_words : Nodes → (node : ℕ) → List ℕ

@@ -48,8 +48,8 @@ pub(crate) fn push_marks(
     Ok(())
 }
 
-/// The line of a node: its name, how often it fires in a round and before the first one, its
-/// tape, and its shape.
+/// The line of a node: its number and its name, how often it fires in a round and before the first
+/// one, its tape, and its shape.
 pub(crate) fn push_node(
     text: &mut Vec<u8>,
     counted: Counted<'_>,
@@ -76,7 +76,7 @@ fn push_end(text: &mut Vec<u8>, nodes: &[Node], node: usize) -> Result<(), Alloc
     }
 }
 
-/// The beginning of a node's line, up to its name.
+/// The beginning of a node's line, up to its number and its name.
 fn push_name(text: &mut Vec<u8>, graph: &Graph, node: usize) -> Result<(), AllocError>
     ensures { OnOk result (text.new.items ≡ text.old.items
         ++ spec.name_words (node_names graph.now) node) }
@@ -84,6 +84,8 @@ fn push_name(text: &mut Vec<u8>, graph: &Graph, node: usize) -> Result<(), Alloc
     push_bytes(text, b"  n")?;
     push_number(text, node as u128)?;
     push_bytes(text, b" [label=\"")?;
+    push_number(text, node as u128)?;
+    push_bytes(text, b" ")?;
     push_bytes(text, name_of(graph, node))
 }
 

@@ -1,6 +1,9 @@
 // The `{` that is still open where a text can't go on.
 
-use crate::pairs::push_place;
+ghost use Rattle.std.specs.Prelude.{OnOk};
+ghost use Rattle.strc_cli_syntax.specs.Words.{GoesOnWithHint};
+
+use crate::place_words::push_place;
 use strc_cli_source::message::Message;
 use strc_cli_source::source::Source;
 use strc_cli_source::tokens::is_mark;
@@ -12,12 +15,14 @@ pub(crate) fn push_open_brace(
     message: &mut Message,
     source: Source<'_>,
     number: usize,
-) -> Result<(), NoMemory> {
+) -> Result<(), NoMemory>
+    ensures { OnOk result (GoesOnWithHint message.old message.new) }
+{
     match open_brace(source, number) {
         Some(place) => {
             message.hint()?;
             message.add(b"a `}` may be missing: a `{` is still open")?;
-            push_place(message, source, Some(place))
+            push_place(message, source.text, Some(place))
         }
         None => Ok(()),
     }
@@ -31,7 +36,10 @@ pub(crate) fn is_outside(source: Source<'_>, number: usize) -> bool {
 /// The innermost `{` that is open before a token.
 fn open_brace(source: Source<'_>, number: usize) -> Option<Span> {
     let mut closed: usize = 0;
-    for token in source.tokens[..number.min(source.tokens.len())].iter().rev() {
+    for token in source.tokens[..number.min(source.tokens.len())]
+        .iter()
+        .rev()
+    {
         if closed == 0 && is_mark(token, Punctuation::OpenBrace) {
             return Some(token.span);
         }

@@ -1,10 +1,13 @@
 // Hints on a token that can't stand where it is, by what people type who know C or other forms of
 // StreamIt.
 
+ghost use Rattle.std.specs.Prelude.{OnOk};
+ghost use Rattle.strc_cli_syntax.specs.Words.{GoesOnWithHint};
+
 use crate::foreign_words::{MESSAGES, STRUCTURES, foreign_hint};
-use crate::hints::push_words;
-use crate::marked_tokens::is_bitwise;
+use crate::hint_words::push_words;
 use crate::open_braces::{is_outside, push_open_brace};
+use crate::operators::is_bitwise;
 use strc_cli_source::message::Message;
 use strc_cli_source::source::Source;
 use strc_cli_source::tokens::{is_keyword, is_mark};
@@ -13,11 +16,13 @@ use strc_lex_names::memory::NoMemory;
 
 /// A hint on a token, by its number, that can't stand where it is; past the last one, on a text
 /// that ends too soon.
-pub(crate) fn push_syntax_hint(
+pub fn push_syntax_hint(
     message: &mut Message,
     source: Source<'_>,
     number: usize,
-) -> Result<(), NoMemory> {
+) -> Result<(), NoMemory>
+    ensures { OnOk result (GoesOnWithHint message.old message.new) }
+{
     let Some(found) = source.tokens.get(number) else {
         return push_open_brace(message, source, number);
     };
@@ -32,22 +37,17 @@ pub(crate) fn push_syntax_hint(
 /// in a block, the block has no end.
 fn can_follow_a_stream(found: &Token) -> bool {
     match found.kind {
-        TokenKind::Keyword(keyword) => begins_part(keyword),
-        TokenKind::Punctuation(mark) => mark == Punctuation::Arrow,
-        _ => false,
-    }
-}
-
-fn begins_part(keyword: Keyword) -> bool {
-    match keyword {
-        Keyword::Filter
-        | Keyword::Pipeline
-        | Keyword::Splitjoin
-        | Keyword::Feedbackloop
-        | Keyword::Init
-        | Keyword::Prework
-        | Keyword::Work
-        | Keyword::Void => true,
+        TokenKind::Keyword(
+            Keyword::Filter
+            | Keyword::Pipeline
+            | Keyword::Splitjoin
+            | Keyword::Feedbackloop
+            | Keyword::Init
+            | Keyword::Prework
+            | Keyword::Work
+            | Keyword::Void,
+        )
+        | TokenKind::Punctuation(Punctuation::Arrow) => true,
         _ => false,
     }
 }
@@ -101,7 +101,10 @@ fn keyword_hint(source: Source<'_>, number: usize, keyword: Keyword) -> &'static
             or_else(before_hint(source, number), b"a stream is added by `add`")
         }
         Keyword::Int if follows(source, number, Punctuation::OpenParen) => {
-            or_else(before_hint(source, number), b"all numbers are `int`, and nothing is cast")
+            or_else(
+                before_hint(source, number),
+                b"all numbers are `int`, and nothing is cast",
+            )
         }
         Keyword::Duplicate => b"a join takes items in turn, by `roundrobin`",
         Keyword::Boolean => b"parameters are `int`: 1 and 0 stand for true and false",
@@ -163,7 +166,11 @@ fn is_uncombined(token: &Token) -> bool {
 /// Whether the statement of a token has an `=` before it.
 fn assigns_before(source: Source<'_>, number: usize) -> bool {
     let earlier = &source.tokens[..number.min(source.tokens.len())];
-    match earlier.iter().rev().find(|it| is_mark(it, Punctuation::Assign) || ends_part(it)) {
+    match earlier
+        .iter()
+        .rev()
+        .find(|it| is_mark(it, Punctuation::Assign) || ends_part(it))
+    {
         Some(last) => is_mark(last, Punctuation::Assign),
         None => false,
     }
@@ -197,7 +204,8 @@ fn bracket_hint(source: Source<'_>, number: usize) -> &'static [u8] {
 fn star_hint(source: Source<'_>, number: usize) -> &'static [u8] {
     match before(source, number) {
         Some(token) if is_rate(token) => RATES,
-        Some(token) if is_type(token) => b"there are no pointers: an array has its places by number",
+        Some(token) if is_type(token) =>
+            b"there are no pointers: an array has its places by number",
         Some(token) if is_mark(token, Punctuation::Star) => b"powers are computed by a loop",
         _ => b"",
     }

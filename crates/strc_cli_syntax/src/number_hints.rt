@@ -1,6 +1,9 @@
 // Hints on a number that isn't one here: of another base, with zeros before it, or too large.
 
-use crate::hints::push_words;
+ghost use Rattle.std.specs.Prelude.{OnOk};
+ghost use Rattle.strc_cli_syntax.specs.Words.{GoesOnWithHint};
+
+use crate::hint_words::push_words;
 use strc_cli_source::message::Message;
 use strc_lex_names::memory::NoMemory;
 
@@ -8,11 +11,9 @@ use strc_lex_names::memory::NoMemory;
 const GREATEST: u64 = 0xffff_ffff;
 
 /// A hint on the number that begins at a byte of a text, where there is one.
-pub(crate) fn push_number_hint(
-    message: &mut Message,
-    text: &[u8],
-    at: usize,
-) -> Result<(), NoMemory> {
+pub fn push_number_hint(message: &mut Message, text: &[u8], at: usize) -> Result<(), NoMemory>
+    ensures { OnOk result (GoesOnWithHint message.old message.new) }
+{
     let rest = &text[at.min(text.len())..];
     if !is_digit(rest.first()) {
         return Ok(());
@@ -63,17 +64,28 @@ fn digit_of(byte: u8) -> Option<u64> {
 }
 
 /// How the number is written, as 32 bits with a sign.
-fn push_value(message: &mut Message, value: u64) -> Result<(), NoMemory> {
+fn push_value(message: &mut Message, value: u64) -> Result<(), NoMemory>
+    ensures { OnOk result (GoesOnWithHint message.old message.new) }
+{
     if value > GREATEST {
         return push_words(message, b"a number has 32 bits");
     }
-    message.hint()?;
     if value > 0x7fff_ffff {
-        message.add(b"its 32 bits are the number -")?;
-        message.number(GREATEST - value + 1)?;
-    } else {
-        message.add(b"it is written ")?;
-        message.number(value)?;
+        return push_written(
+            message,
+            b"its 32 bits are the number -",
+            GREATEST - value + 1,
+        );
     }
+    push_written(message, b"it is written ", value)
+}
+
+/// How a number is written, after these words.
+fn push_written(message: &mut Message, before: &[u8], number: u64) -> Result<(), NoMemory>
+    ensures { OnOk result (GoesOnWithHint message.old message.new) }
+{
+    message.hint()?;
+    message.add(before)?;
+    message.number(number)?;
     Ok(message.add(b": numbers are decimal, of 32 bits with a sign")?)
 }

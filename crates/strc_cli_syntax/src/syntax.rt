@@ -1,5 +1,8 @@
 // What a person reads of a token that can't stand where it is.
 
+ghost use Rattle.std.specs.Prelude.{◌≡◌, ◌++◌, OnOk};
+ghost use Rattle.strc_cli_syntax.specs.Words.{GoesOn, syntax_words};
+
 use crate::expected_tokens::{Expected, expected_after};
 use std::alloc::Global;
 use strc_cli_source::message::Message;
@@ -7,23 +10,22 @@ use strc_cli_source::source::Source;
 use strc_lex_names::memory::NoMemory;
 use strc_lex_names::place::Span;
 
-/// What is where it can't be, and what could be there.
-pub(crate) fn push_syntax(
+/// What is where it can't be, and what could be there; past the last token, that the text ends too
+/// soon.
+pub fn push_syntax(
     alloc: Global,
     message: &mut Message,
     source: Source<'_>,
     token: usize,
-) -> Result<(), NoMemory> {
+) -> Result<(), NoMemory>
+    // The sentence begins with the token.
+    ensures { OnOk result (GoesOn (message.old
+        ++ syntax_words source.entry.text.now source.entry.tokens.now token) message.new) }
+{
+    push_unexpected(message, source, token)?;
     let end = match source.tokens.get(token) {
-        Some(found) => {
-            message.quoted(source.bytes(found.span))?;
-            message.add(b" can't stand here")?;
-            found.span.start
-        }
-        None => {
-            message.add(b"the text ends too soon")?;
-            source.text.len()
-        }
+        Some(found) => found.span.start,
+        None => source.text.len(),
     };
     let beginning = source.bytes(Span { start: 0, end });
     match expected_after(alloc, beginning, token)? {
@@ -32,8 +34,24 @@ pub(crate) fn push_syntax(
     }
 }
 
+/// What is where it can't be.
+fn push_unexpected(message: &mut Message, source: Source<'_>, token: usize) -> Result<(), NoMemory>
+    ensures { OnOk result (message.new ≡ message.old
+        ++ syntax_words source.entry.text.now source.entry.tokens.now token) }
+{
+    match source.tokens.get(token) {
+        Some(found) => {
+            message.quoted(source.bytes(found.span))?;
+            Ok(message.add(b" can't stand here")?)
+        }
+        None => Ok(message.add(b"the text ends too soon")?),
+    }
+}
+
 /// What could be there: kinds of things first, then tokens.
-fn push_expected(message: &mut Message, expected: &Expected) -> Result<(), NoMemory> {
+fn push_expected(message: &mut Message, expected: &Expected) -> Result<(), NoMemory>
+    ensures { OnOk result (GoesOn message.old message.new) }
+{
     let mut said = false;
     for (is, words) in [
         (expected.statement, "a statement"),
