@@ -15,7 +15,7 @@ use Rattle.strc_sched_laws.specs.Machine.{CircuitView, MachineView, Went, order_
 use Rattle.strc_sched_laws.specs.Planned.{AreKnown}
 use Rattle.strc_sched_machine.specs.Actors.{AreClosed, IsClosedNode, AreStartable, CanStartNode}
 use Rattle.strc_sched_machine.specs.Actors.{CanStartCopy}
-use Rattle.strc_sched_machine.specs.Running.{HasGone}
+use Rattle.strc_sched_machine.specs.Running.{HasGone, machine_view}
 use Rattle.strc_sched_machine.specs.declared.machine.Stop.{Stop}
 use Rattle.strc_sched_machine.specs.declared.machine.Stop.TheVariants as stops
 use Rattle.strc_sched_machine.proofs.Startable.{all_start}
@@ -31,7 +31,7 @@ use Rattle.strc_stage_steps.proofs.Numbers as dealing
 use Rattle.strc_stage_plan.specs.Plans.{IsPlan, PlanParts, graph_of}
 use Rattle.strc_stage_steps.specs.Plans.{IsReadyFor}
 use Rattle.strc_stage_steps.proofs.Plans.{graph_is, origins_are}
-use Rattle.strc_stage_cut.specs.Startups.{HasDealt, IsDealtOf, IsFaultOf, IsStartup}
+use Rattle.strc_stage_cut.specs.Startups.{HasDealt, IsDealtOf, IsFaultOf, IsStartup, IsStartupIn}
 use Rattle.strc_stage_cut.specs.declared.startup.Startup.{Startup}
 use Rattle.strc_stage_cut.specs.declared.startup.Startup.TheVariants as startup
 
@@ -148,45 +148,37 @@ module _ (plan : PlanParts) (old : CircuitView) (before after : MachineView) whe
 
   pub has_dealt : (graph : GraphParts) (origins : List Origin) (sizes : List ℕ)
       → graph ≡ plan.split.graph → origins ≡ plan.split.origins
-      → sizes ≡ plan.split.schedule.sizes → IsDealtBy graph origins sizes
-      → HasDealt plan old before after
-  has_dealt graph origins sizes same same_origins sized dealt =
-      subst (IsDealtBy plan.split.graph plan.split.origins) sized
-      (subst (λ (l : List Origin). IsDealtBy plan.split.graph l sizes) same_origins
-      (subst (λ (g : GraphParts). IsDealtBy g origins sizes) same dealt))
+      → IsDealtBy graph origins sizes → HasDealt plan sizes old before after
+  has_dealt graph origins sizes same same_origins dealt =
+      subst (λ (l : List Origin). IsDealtBy plan.split.graph l sizes) same_origins
+      (subst (λ (g : GraphParts). IsDealtBy g origins sizes) same dealt)
 
-module _ (plan : PlanParts) (input : List ℤ) (old : CircuitView) (first : MachineView)
-    (ready : IsReadyFor plan input old)
+module _ (plan : PlanParts) (sizes : List ℕ) (input : List ℤ) (old : CircuitView)
+    (first : MachineView) (ready : IsReadyFor plan input old)
     (is_first : IsFirst (graph_of plan) plan.schedule.sizes first) where
-  pub ended_so : (left : MachineView) (result : Result Startup NoMemory)
+  pub left_so : (left : MachineView) (result : Result Startup NoMemory)
       → order_run old (startup_order plan.schedule) first ≡ Went left
-      → IfOk result (IsDealtOf plan old left input) → IfOk result (IsStartup plan input)
-  ended_so left (Ok (startup.Ended circuit machine)) went told = (
-    record {
-      old = old;
-      ready = ready;
-      startup = record {
-        first = first;
-        is_first = is_first;
-        left = left;
-        went = went;
-        circuit_is = told.circuit_is;
-        input_is = told.input_is;
-        dealt = told.dealt;
-      };
-    },
-    told.can_run,
-  )
-  ended_so left (Ok (startup.Faulted node firing cause)) went told = absurd told
-  ended_so left (Err refused) went told = tt
+      → IfOk result (IsDealtOf plan sizes old left input)
+      → IfOk result (IsStartupIn plan sizes input)
+  left_so left (Ok (startup.Ended circuit machine)) went dealt = record {
+    old = old;
+    ready = ready;
+    first = first;
+    is_first = is_first;
+    left = left;
+    went = went;
+    dealt = dealt;
+  }
+  left_so left (Ok (startup.Faulted node firing cause)) went dealt = absurd dealt
+  left_so left (Err refused) went dealt = tt
 
   -- a stop of start-up is a fault of the plan
   pub fault_so : (after : MachineView) (before : List (List Word)) (stop : Stop)
       (result : Result Startup NoMemory)
       → HasGone (order_run old (startup_order plan.schedule) first) (Err stop) before after
-      → IfOk result (IsFaultOf stop) → IfOk result (IsStartup plan input)
+      → IfOk result (IsFaultOf stop) → IfOk result (IsStartupIn plan sizes input)
   fault_so after before (stops.Fault node firing cause) (Ok ended) gone told =
-      subst (IsStartup plan input) (sym told) (record {
+      subst (IsStartupIn plan sizes input) (sym told) (record {
         old = old;
         first = first;
         ready = ready;
@@ -195,3 +187,27 @@ module _ (plan : PlanParts) (input : List ℤ) (old : CircuitView) (first : Mach
       })
   fault_so after before stops.NoMemory (Ok ended) gone told = absurd told
   fault_so after before stop (Err refused) gone told = tt
+
+-- over the plan's own sizes
+pub started_so : (plan : PlanParts) (sizes : List ℕ) (input : List ℤ)
+    (result : Result Startup NoMemory) → sizes ≡ plan.split.schedule.sizes
+    → IfOk result (IsStartupIn plan sizes input) → IfOk result (IsStartup plan input)
+started_so plan sizes input (Ok (startup.Ended circuit machine)) same left = (
+  record {
+    old = left.old;
+    ready = left.ready;
+    startup = record {
+      first = left.first;
+      is_first = left.is_first;
+      left = left.left;
+      went = left.went;
+      circuit_is = left.dealt.circuit_is;
+      input_is = left.dealt.input_is;
+      dealt = subst (λ (l : List ℕ). HasDealt plan l left.old left.left (machine_view machine))
+          same left.dealt.dealt;
+    };
+  },
+  left.dealt.can_run,
+)
+started_so plan sizes input (Ok (startup.Faulted node firing cause)) same faulted = faulted
+started_so plan sizes input (Err refused) same left = tt

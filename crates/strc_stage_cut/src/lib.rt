@@ -13,8 +13,8 @@ mod free_parcels;
 mod links;
 mod plan_cut;
 mod plan_start;
-mod pushes;
-mod round_firings;
+pub mod pushes;
+pub mod round_firings;
 mod stage_parts;
 mod stage_ring;
 mod stages;
@@ -24,4 +24,4 @@ mod units;
 
 pub use stage_ring::{Launch, Ring};
 pub use stages::{Stages, cut, launch};
-pub use startup::{Startup, start_up};
+pub use startup::{Startup, start_up, start_up_in};

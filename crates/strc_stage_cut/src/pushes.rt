@@ -12,7 +12,7 @@ use strc_elab_graph::rates::pushes_at;
 
 /// How many items a channel from this port carries in a round from stage to stage, where nodes fire
 /// so often and it crosses from one to another or doesn't.
-pub(crate) fn items_between(nodes: &[Node], counts: &[u32], crosses: bool, port: Port) -> u32
+pub fn items_between(nodes: &[Node], counts: &[u32], crosses: bool, port: Port) -> u32
     requires few { (if crosses then
         count_at counts.now port.node * push_at (map node_view nodes.now) 1 port else 0) < 2 ^ 32 }
     ensures { result ≡ (if crosses then

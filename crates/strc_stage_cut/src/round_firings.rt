@@ -11,7 +11,7 @@ use std::alloc::{AllocError, Global};
 use strc_sched_orders::unit::Unit;
 
 /// How often each of so many nodes fires in a round's units.
-pub(crate) fn firing_counts(
+pub fn firing_counts(
     alloc: Global,
     nodes: usize,
     round: &[Unit],

@@ -5,7 +5,7 @@ ghost use Rattle.strc_elab_graph.specs.NodeView.{graph_view};
 ghost use Rattle.strc_sched_laws.specs.Circuits.{IsCircuit};
 ghost use Rattle.strc_sched_rings.specs.Circuits.{circuit_view};
 ghost use Rattle.strc_sched_machine.specs.Running.{IsMachine, machine_view};
-ghost use Rattle.strc_stage_cut.specs.Startups.{IsFaultOf, IsStartup, IsDealtOf};
+ghost use Rattle.strc_stage_cut.specs.Startups.{IsDealtOf, IsFaultOf, IsStartup, IsStartupIn};
 
 use std::alloc::Global;
 use strc_lex_names::memory::NoMemory;
@@ -35,6 +35,19 @@ pub enum Startup {
 pub fn start_up(alloc: Global, plan: &Plan, input: &[i32]) -> Result<Startup, NoMemory>
     ensures { IfOk result (IsStartup plan.now input.now) }
 {
+    start_up_in(alloc, plan, input, plan.transformed_sizes())
+}
+
+/// Start-up of a plan over an input, on this thread, where the rings of the graph after fission get
+/// these sizes. `NoMemory` comes where memory runs out.
+pub fn start_up_in(
+    alloc: Global,
+    plan: &Plan,
+    input: &[i32],
+    sizes: &[u32],
+) -> Result<Startup, NoMemory>
+    ensures { IfOk result (IsStartupIn plan.now sizes.now input.now) }
+{
     plan.known();
     let graph = plan.graph();
     let schedule = plan.schedule();
@@ -42,7 +55,7 @@ pub fn start_up(alloc: Global, plan: &Plan, input: &[i32]) -> Result<Startup, No
     let order = order_of(alloc, &circuit, schedule.startup())?;
     let mut machine = Machine::new(alloc, graph, &circuit, schedule.sizes())?;
     match machine.fire_order(&circuit, &order) {
-        Ok(()) => dealt(alloc, plan, &circuit, machine, input),
+        Ok(()) => dealt(alloc, plan, &circuit, machine, input, sizes),
         Err(stop) => faulted(stop),
     }
 }
@@ -54,15 +67,15 @@ fn dealt(
     old: &Circuit,
     machine: Machine,
     input: &[i32],
+    sizes: &[u32],
 ) -> Result<Startup, NoMemory>
     requires old { IsCircuit (graph_view plan.now.graph) (circuit_view old.now) }
     requires machine { IsMachine (circuit_view old.now) machine }
-    ensures { IfOk result (IsDealtOf plan.now (circuit_view old.now) (machine_view machine)
-        input.now) }
+    ensures { IfOk result (IsDealtOf plan.now sizes.now (circuit_view old.now)
+        (machine_view machine) input.now) }
 {
     plan.known();
     let graph = plan.transformed_graph();
-    let sizes = plan.transformed_sizes();
     let circuit = Circuit::new(alloc, graph, input)?;
     let machine = deal_out(alloc, machine, old, graph, &circuit, plan.origins(), sizes)?;
     Ok(Startup::Ended { circuit, machine })

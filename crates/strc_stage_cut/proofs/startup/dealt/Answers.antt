@@ -35,6 +35,5 @@ returns c =
       };
       dealt = has_dealt plan (circuit_view c.args.old.now) (machine_view c.args.machine)
           (machine_view c.in_ok-machine.machine) graph.result.now c.origins.result.now
-          c.transformed_sizes-sizes.result.now graph.ensures c.origins.ensures
-          c.transformed_sizes-sizes.ensures.sizes c.in_ok-machine.ensures.dealt;
+          c.args.sizes.now graph.ensures c.origins.ensures c.in_ok-machine.ensures.dealt;
     }
