@@ -11,11 +11,7 @@ use std::alloc::{AllocError, Global};
 use strc_sched_orders::unit::Unit;
 
 /// How often each of so many nodes fires in a round's units.
-pub fn firing_counts(
-    alloc: Global,
-    nodes: usize,
-    round: &[Unit],
-) -> Result<Vec<u32>, AllocError>
+pub fn firing_counts(alloc: Global, nodes: usize, round: &[Unit]) -> Result<Vec<u32>, AllocError>
     requires nodes { All (HasNodes nodes) round.now }
     requires few { (node : ℕ) → firing_count (firings_of round.now) node < 2 ^ 32 }
     ensures { IfOk result (λ counts. count_at counts.items ≡ firing_count (firings_of round.now)) }
