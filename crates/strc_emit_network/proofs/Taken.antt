@@ -11,6 +11,7 @@ use Rattle.strc_elab_graph.specs.Graphs.{NodeCode}
 use Rattle.strc_elab_graph.specs.Graphs as graphs
 use Rattle.strc_elab_graph.specs.NodeView.{node_view}
 use Rattle.strc_elab_graph.specs.Rates.{pops_at}
+use Rattle.strc_emit_moves.specs.declared.places.Phase.TheVariants as phase
 use Rattle.strc_emit_moves.specs.Places.{pops_of}
 use Rattle.strc_emit_moves.specs.Rooms.{moved_after, first_port}
 use Rattle.strc_emit_runs.specs.Running.{Program, code_at}
@@ -19,7 +20,7 @@ use Rattle.strc_emit_network.specs.Programs.{IsNodeIn}
 use Rattle.strc_emit_network.specs.Taken.{RoundsTake}
 use Rattle.strc_emit_network.proofs.Later.{later_rates_are_same}
 
-moved_by_later : (before first later firings : ℕ) → (1 ≤ before) ⊎ (first ≡ later)
+pub moved_by_later : (before first later firings : ℕ) → (1 ≤ before) ⊎ (first ≡ later)
     → moved_after before first later firings ≡ later * firings
 moved_by_later (suc before) first later firings is = refl
 moved_by_later zero first later firings (inl one) = absurd (omega (arith, one))
@@ -28,7 +29,8 @@ moved_by_later zero first later (suc firings) (inr same) =
     let sum : first + later * firings ≡ later * suc firings = omega (arith, same) in sum
 
 -- a node has fired in start-up, or its first firing is as the later ones
-starts : (program : Program) (node : ℕ) (code : NodeCode) → IsNodeIn program node code
+starts : (program : Program) (node : ℕ) (code : NodeCode)
+    → IsNodeIn program phase.Round node code
     → (1 ≤ slice_index program.network.startup.now node) ⊎ IsLaterFiring code 0
 starts program node (graphs.Filter name filter) is = by is.2.started
   where

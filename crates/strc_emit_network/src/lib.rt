@@ -3,7 +3,7 @@
 // empty body, and no code: a firing sees the fronts of its node's queues (Lee and Messerschmitt
 // 1987: samples on an arc are a first-in-first-out queue).
 // A caller relies on `network_runs`: any number of rounds go in C as over queues, since each firing
-// does (`network_firings`).
+// does (`network_firings`); and on `network_starts`: so does start-up.
 // Stands on strc_emit_runs, whose machine the firings are of, on strc_sched_laws, which says what
 // rates they keep, and on what these stand on.
 #![tactic(auto)]
@@ -11,7 +11,7 @@
 ghost use Rattle.strc_emit_network.specs.Firings.{NetworkFirings, ReadersReadNext, TakesAreThere};
 ghost use Rattle.strc_emit_network.specs.Later.{LaterRatesAreSame, WorksFireLater};
 ghost use Rattle.strc_emit_network.specs.Readers.{ReadersRead};
-ghost use Rattle.strc_emit_network.specs.Runs.{NetworkRuns};
+ghost use Rattle.strc_emit_network.specs.Runs.{NetworkRuns, NetworkStarts};
 ghost use Rattle.strc_emit_network.specs.Seen.{FrontsAreSeen, WindowsAreSeen};
 ghost use Rattle.strc_emit_network.specs.Taken.{RoundsTake};
 
@@ -35,7 +35,7 @@ pub fn later_rates_are_same()
     ensures { LaterRatesAreSame }
 {}
 
-/// What a firing in a round takes is in its node's queues.
+/// What a firing takes is in its node's queues.
 pub fn takes_are_there()
     ensures { TakesAreThere }
 {}
@@ -45,8 +45,8 @@ pub fn readers_read_next()
     ensures { ReadersReadNext }
 {}
 
-/// Each firing in a round of a graph's program goes in C as over queues: it leaves the program
-/// where the machine over queues is, or comes to the same fault; it is never undefined.
+/// Each firing of a graph's program, in start-up or a round, goes in C as over queues: it leaves
+/// the program where the machine over queues is, or comes to the same fault; it is never undefined.
 pub fn network_firings()
     ensures { NetworkFirings }
 {}
@@ -60,6 +60,12 @@ pub fn readers_read()
 /// or in the same round at the same fault, that they end with over queues.
 pub fn network_runs()
     ensures { NetworkRuns }
+{}
+
+/// Start-up of a graph's program, whose calls are those of its order, leaves the program where the
+/// machine over queues is, ready for the first round, or comes to the same fault.
+pub fn network_starts()
+    ensures { NetworkStarts }
 {}
 
 /// A round takes as many items of a channel as its firings do, each as many as the later ones.

@@ -1,6 +1,7 @@
 -- Calls follow their order, and rounds follow rounds.
-use Rattle.std.proofs.Common.{◌≡◌, ℕ, zero, suc, ◌+◌, ◌≤◌, ℤ, true, false, cond, List, []}
-use Rattle.std.proofs.Common.{◌∷◌, ◌++◌, replicate, Some, Result, Ok, Err, refl, sym, ap, ◌∙◌}
+use Rattle.std.proofs.Common.{◌≡◌, ℕ, zero, suc, ◌+◌, ◌-◌, ◌≤◌, ℤ, true, false, cond, List, []}
+use Rattle.std.proofs.Common.{◌∷◌, ◌++◌, replicate, Option, Some, None, Result, Ok, Err, refl}
+use Rattle.std.proofs.Common.{sym, ap, ◌∙◌}
 use Rattle.std.proofs.Common.{subst, arith, ◌==◌, ◌⊎◌, inl, inr, Bool}
 use mathlib.Core.Path.{fun_ext}
 use Rattle.std.proofs.lemmas.Bool.{cases_eq, eq-eqb, ne_eqb, eqb-true}
@@ -12,14 +13,21 @@ use Rattle.strc_elab_dataflow.specs.Flat as flat
 use Rattle.strc_elab_dataflow.specs.Queues.{FifoProgress, FifoProgress.FifoWent, fifo_fire}
 use Rattle.strc_elab_dataflow.specs.Queues.{FifoProgress.FifoStopped, fifo_go, fifo_then}
 use Rattle.strc_elab_dataflow.specs.Queues.{fifo_rounds, fifo_round_outcome}
+use Rattle.strc_work_meaning.specs.Filters.{Filter}
 use Rattle.strc_elab_graph.specs.Graphs.{NodeCode}
+use Rattle.strc_elab_graph.specs.Graphs as graphs
 use Rattle.strc_elab_graph.specs.Meaning.{node_meaning}
+use Rattle.strc_emit_bodies.specs.Spelling.{BodyFunction}
+use Rattle.strc_emit_moves.specs.declared.places.Phase.{Phase}
 use Rattle.strc_emit_moves.specs.declared.places.Phase.TheVariants as phase
+use Rattle.strc_emit_moves.specs.Places.{taken_at, given_at}
 use Rattle.strc_emit_runs.specs.Running.{Program, Running, Halt, FaultsIn, NoMeaning, firing_of}
 use Rattle.strc_emit_runs.specs.Running.{firings_done, NodeCall, code_at, call_done, calls_done}
-use Rattle.strc_emit_runs.specs.Running.{order_done, after_round, rounds_done}
-use Rattle.strc_emit_runs.specs.Orders.{Queues, Goes, fired_on, RoundShows, FiringsGo, AreCallsOf}
-use Rattle.strc_emit_runs.specs.Orders.{AreWithin}
+use Rattle.strc_emit_runs.specs.Running.{order_done, after_round, rounds_done, next_firing}
+use Rattle.strc_emit_runs.specs.Running.{first_firing, prework_done, started, first_or_all, halted}
+use Rattle.strc_emit_runs.specs.Running.{body_done, first_source, first_target}
+use Rattle.strc_emit_runs.specs.Orders.{Queues, Goes, fired_on, RunShows, FiringsGo, AreCallsOf}
+use Rattle.strc_emit_runs.specs.Orders.{AreWithin, FiresSome}
 use Rattle.strc_emit_runs.specs.Orders.{IfWent, FindsAlong, FindsInRounds, fired_after, OrdersGo}
 use Rattle.strc_emit_runs.specs.Orders.{TellsEnd, IsBetween, RoundsGo, RunsGo}
 
@@ -77,7 +85,7 @@ fired_here : (fired : ℕ → ℕ) (node : ℕ) → fired_on fired node 1 node �
 fired_here fired node =
     ap (λ t. cond t (fired node + 1) (fired node)) (eq-eqb node node refl)
 
-within_on : (most fired : ℕ → ℕ) (node count : ℕ) → AreWithin most fired
+pub within_on : (most fired : ℕ → ℕ) (node count : ℕ) → AreWithin most fired
     → fired node + count ≤ most node → AreWithin most (fired_on fired node count)
 within_on most fired node count all within other = by (other == node) refl
   where
@@ -87,10 +95,119 @@ within_on most fired node count all within other = by (other == node) refl
         subst (λ n. fired node + count ≤ most n) (sym (eqb-true other node e)) within
     by false e = all other
 
-module _ (graph : flat.Graph NodeCode) (program : Program) (most : ℕ → ℕ)
-    (steps : FiringsGo graph program most) (round : ℕ) where
+-- the next firings of a node, so many from one on
+abbrev next_firings : Program → Phase → (node : ℕ) → NodeCode → (from count : ℕ) → Running
+    → Result Running Halt
+next_firings program when node code from zero running = Ok running
+next_firings program when node code from (suc count) running =
+    result_and_then (next_firing program when node code from running)
+    (next_firings program when node code (from + 1) count)
+
+then_same : (r : Result Running Halt) (f g : Running → Result Running Halt)
+    → ((running : Running) → f running ≡ g running)
+    → result_and_then r f ≡ result_and_then r g
+then_same (Ok running) f g same = same running
+then_same (Err why) f g same = refl
+
+module _ (program : Program) (node : ℕ) where
+  -- later firings are those of a call
+  later_firings : (when : Phase) (code : NodeCode) (count from : ℕ) (running : Running)
+      → ((i : ℕ) (running : Running) → from ≤ i → next_firing program when node code i running
+      ≡ firing_of program when node code i running)
+      → firings_done program when node code from count running
+      ≡ next_firings program when node code from count running
+  later_firings when code zero from running same = refl
+  later_firings when code (suc count) from running same =
+      ap (λ r. result_and_then r (firings_done program when node code (from + 1) count))
+      (sym (same from running (omega arith)))
+      ∙ then_same (next_firing program when node code from running)
+      (firings_done program when node code (from + 1) count)
+      (next_firings program when node code (from + 1) count)
+      (λ after. later_firings when code count (from + 1) after
+      (λ i running le. same i running (omega (arith, le))))
+
+  -- of a filter with a prework those after the first
+  after_first : (name : Option (List ℕ)) (filter : Filter) (i : ℕ) (running : Running) → 1 ≤ i
+      → next_firing program phase.Startup node (graphs.Filter name filter) i running
+      ≡ firing_of program phase.Startup node (graphs.Filter name filter) i running
+  after_first name filter zero running le = absurd (omega (arith, le))
+  after_first name filter (suc i) running le = refl
+
+  -- a filter without one has its work in all firings
+  all_works : (name : Option (List ℕ)) (filter : Filter)
+      → (program.functions node).prework ≡ None → (i : ℕ) (running : Running)
+      → next_firing program phase.Startup node (graphs.Filter name filter) i running
+      ≡ firing_of program phase.Startup node (graphs.Filter name filter) i running
+  all_works name filter none zero running =
+      ap (λ o. first_firing program node (graphs.Filter name filter)
+      (prework_done program node o running) running) none
+  all_works name filter none (suc i) running = refl
+
+  filter_called : (name : Option (List ℕ)) (filter : Filter) (from count : ℕ) (running : Running)
+      → 1 ≤ count → (o : Option BodyFunction) → (program.functions node).prework ≡ o
+      → started program node (graphs.Filter name filter) from count running
+      ≡ next_firings program phase.Startup node (graphs.Filter name filter) from count running
+  filter_called name filter (suc from) count running some o is =
+      later_firings phase.Startup (graphs.Filter name filter) count (suc from) running
+      (λ i after le. after_first name filter i after (omega (arith, le)))
+  filter_called name filter zero count running some None is =
+      ap (λ o. first_or_all program node (graphs.Filter name filter) count
+      (prework_done program node o running) running) is
+      ∙ later_firings phase.Startup (graphs.Filter name filter) count 0 running
+      (λ i after le. all_works name filter is i after)
+  filter_called name filter zero zero running some (Some body) is = absurd (omega (arith, some))
+  filter_called name filter zero (suc count) running some (Some body) is =
+      let first : Result Running Halt = halted node 0 (body_done program node body
+      (first_source program (taken_at program.network phase.Startup node 0))
+      (first_target program (given_at program.network phase.Startup node 0)) running) in
+      let less : suc count - 1 ≡ count = omega arith in
+      ap (λ o. first_or_all program node (graphs.Filter name filter) (suc count)
+      (prework_done program node o running) running) is
+      ∙ ap (λ n. result_and_then first
+      (firings_done program phase.Startup node (graphs.Filter name filter) 1 n)) less
+      ∙ then_same first
+      (firings_done program phase.Startup node (graphs.Filter name filter) 1 count)
+      (next_firings program phase.Startup node (graphs.Filter name filter) 1 count)
+      (λ after. later_firings phase.Startup (graphs.Filter name filter) count 1 after
+      (λ i last le. after_first name filter i last le))
+      ∙ ap (λ o. result_and_then (first_firing program node (graphs.Filter name filter)
+      (prework_done program node o running) running)
+      (next_firings program phase.Startup node (graphs.Filter name filter) 1 count)) (sym is)
+
+  -- a call is its node's next firings
+  called : (when : Phase) (code : NodeCode) (from count : ℕ) (running : Running)
+      → FiresSome when count
+      → call_done program when node (Some code) from count running
+      ≡ next_firings program when node code from count running
+  called phase.Round code from count running some =
+      later_firings phase.Round code count from running (λ i after le. refl)
+  called phase.Startup (graphs.Filter name filter) from count running some =
+      filter_called name filter from count running some (program.functions node).prework refl
+  called phase.Startup graphs.Identity from count running some =
+      later_firings phase.Startup graphs.Identity count from running (λ i after le. refl)
+  called phase.Startup (graphs.FileReader text) from count running some =
+      later_firings phase.Startup (graphs.FileReader text) count from running
+      (λ i after le. refl)
+  called phase.Startup (graphs.FileWriter text) from count running some =
+      later_firings phase.Startup (graphs.FileWriter text) count from running
+      (λ i after le. refl)
+  called phase.Startup (graphs.Splitter splitter) from count running some =
+      later_firings phase.Startup (graphs.Splitter splitter) count from running
+      (λ i after le. refl)
+  called phase.Startup (graphs.Joiner weights) from count running some =
+      later_firings phase.Startup (graphs.Joiner weights) count from running (λ i after le. refl)
+  called phase.Startup (graphs.Scatter fission) from count running some =
+      later_firings phase.Startup (graphs.Scatter fission) count from running (λ i after le. refl)
+  called phase.Startup (graphs.Copy copied fission) from count running some =
+      later_firings phase.Startup (graphs.Copy copied fission) count from running
+      (λ i after le. refl)
+  called phase.Startup (graphs.Gather fission) from count running some =
+      later_firings phase.Startup (graphs.Gather fission) count from running (λ i after le. refl)
+
+module _ (graph : flat.Graph NodeCode) (program : Program) (when : Phase) (most : ℕ → ℕ)
+    (steps : FiringsGo graph program when most) (round : ℕ) where
   abbrev Shown : (ℕ → ℕ) → Queues → Running → Type 0
-  Shown fired now running = RoundShows program round fired now running
+  Shown fired now running = RunShows program when round fired now running
 
   -- a node's firings, and then others
   firings_go : (count : ℕ) (node : ℕ) (code : NodeCode) (later : List ℕ)
@@ -103,7 +220,7 @@ module _ (graph : flat.Graph NodeCode) (program : Program) (most : ℕ → ℕ)
       → Shown (fired_on fired node count) after left
       → Goes Next (fifo_go node_meaning graph later after) (g left))
       → Goes Next (fifo_go node_meaning graph (replicate count node ++ later) now)
-      (result_and_then (firings_done program phase.Round node code (fired node) count running) g)
+      (result_and_then (next_firings program when node code (fired node) count running) g)
   unfolding fifo_go
   firings_go zero node code later g Next fired now running is all within finds shown next =
       next now running finds
@@ -111,19 +228,19 @@ module _ (graph : flat.Graph NodeCode) (program : Program) (most : ℕ → ℕ)
   firings_go (suc count) node code later g Next fired now running is all within finds shown next =
       let tail : Running → Result Running Halt =
       λ left. result_and_then
-      (firings_done program phase.Round node code (fired node + 1) count left) g in
+      (next_firings program when node code (fired node + 1) count left) g in
       subst (λ r. Goes Next
       (fifo_go node_meaning graph (replicate (suc count) node ++ later) now) r)
-      (sym (assoc (firing_of program phase.Round node code (fired node) running)
-      (firings_done program phase.Round node code (fired node + 1) count) g))
+      (sym (assoc (next_firing program when node code (fired node) running)
+      (next_firings program when node code (fired node + 1) count) g))
       (goes_then (Shown (fired_on fired node 1)) Next
       (FindsAlong graph (replicate count node ++ later)) (fifo_fire node_meaning graph now node)
-      (firing_of program phase.Round node code (fired node) running)
+      (next_firing program when node code (fired node) running)
       (fifo_go node_meaning graph (replicate count node ++ later)) tail finds.1
       (steps round fired now running node code is all (omega (arith, within)) finds.0 shown)
       (λ after left more s. subst (λ n. Goes Next
       (fifo_go node_meaning graph (replicate count node ++ later) after)
-      (result_and_then (firings_done program phase.Round node code n count left) g))
+      (result_and_then (next_firings program when node code n count left) g))
       (fired_here fired node)
       (firings_go count node code later g Next (fired_on fired node 1) after left is
       (within_on most fired node 1 all (omega (arith, within)))
@@ -138,38 +255,42 @@ module _ (graph : flat.Graph NodeCode) (program : Program) (most : ℕ → ℕ)
       assoc (Err why) f g = refl
 
   pub calls_go : (calls : List NodeCall) (order : List ℕ) (fired : ℕ → ℕ) (now : Queues)
-      (running : Running) → AreWithin most fired → AreCallsOf program most fired calls order
+      (running : Running) → AreWithin most fired → AreCallsOf program when most fired calls order
       → FindsAlong graph order now → Shown fired now running
       → Goes (Shown (fired_after fired calls)) (fifo_go node_meaning graph order now)
-      (calls_done program phase.Round calls running)
+      (calls_done program when calls running)
   unfolding fifo_go
   calls_go [] order fired now running all are finds shown =
       subst (λ o. Goes (Shown fired) (fifo_go node_meaning graph o now) (Ok running)) (sym are)
       shown
   calls_go (call ∷ rest) order fired now running all are finds shown =
-      let code = are.2 in
-      let later = are.3 in
-      let next : Running → Result Running Halt = calls_done program phase.Round rest in
+      let code = are.3 in
+      let later = are.4 in
+      let next : Running → Result Running Halt = calls_done program when rest in
       subst (λ o. Goes (Shown (fired_after (fired_on fired call.node call.count) rest))
       (fifo_go node_meaning graph o now)
-      (calls_done program phase.Round (call ∷ rest) running)) (sym later.1)
+      (calls_done program when (call ∷ rest) running)) (sym later.1)
       (subst (λ n. Goes (Shown (fired_after (fired_on fired call.node call.count) rest))
       (fifo_go node_meaning graph (replicate call.count call.node ++ later.0) now)
-      (result_and_then (call_done program phase.Round call.node (code_at program call.node) n
+      (result_and_then (call_done program when call.node (code_at program call.node) n
       call.count running) next)) (sym are.0)
       (subst (λ o. Goes (Shown (fired_after (fired_on fired call.node call.count) rest))
       (fifo_go node_meaning graph (replicate call.count call.node ++ later.0) now)
-      (result_and_then (call_done program phase.Round call.node o (fired call.node)
+      (result_and_then (call_done program when call.node o (fired call.node)
       call.count running) next)) (sym code.1)
+      (subst (λ r. Goes (Shown (fired_after (fired_on fired call.node call.count) rest))
+      (fifo_go node_meaning graph (replicate call.count call.node ++ later.0) now)
+      (result_and_then r next))
+      (sym (called program call.node when code.0 (fired call.node) call.count running are.2))
       (firings_go call.count call.node code.0 later.0 next
       (Shown (fired_after (fired_on fired call.node call.count) rest)) fired now running code.1
       all are.1 (subst (λ o. FindsAlong graph o now) later.1 finds) shown
       (λ after left more s. calls_go rest later.0 (fired_on fired call.node call.count) after left
-      (within_on most fired call.node call.count all are.1) later.2 more s))))
+      (within_on most fired call.node call.count all are.1) later.2 more s)))))
 
 pub orders_go : OrdersGo
-orders_go graph program most steps calls order round fired now running all are finds shown =
-    calls_go graph program most steps round calls order fired now running all are finds shown
+orders_go graph program when most steps calls order round fired now running all are finds shown =
+    calls_go graph program when most steps round calls order fired now running all are finds shown
 
 module _ (graph : flat.Graph NodeCode) (program : Program) (calls : List NodeCall)
     (order : List ℕ) (input : List ℤ) (rounds : RoundsGo graph program calls order) where

@@ -20,31 +20,39 @@ use Rattle.strc_elab_graph.specs.Graphs as graphs
 use Rattle.strc_elab_graph.specs.Meaning.{node_meaning}
 use Rattle.strc_elab_graph.specs.Rates.{pops_at}
 use Rattle.strc_emit_c.specs.Meaning.{Field}
+use Rattle.strc_emit_moves.specs.declared.places.Phase.{Phase}
 use Rattle.strc_emit_moves.specs.declared.places.Phase.TheVariants as phase
 use Rattle.strc_emit_moves.specs.Places.{pops_of, pushes_of}
 use Rattle.strc_emit_runs.specs.Running.{Program, Running, firing_number, code_at}
 use Rattle.strc_emit_runs.specs.Windows.{StandFrom}
-use Rattle.strc_emit_runs.specs.Orders.{Queues, RoundShows, items_begin, items_end}
+use Rattle.strc_emit_runs.specs.Places.{moved_in}
+use Rattle.strc_emit_runs.specs.Orders.{Queues, RunShows, items_begin, items_before, items_end}
 use Rattle.strc_emit_runs.specs.Orders.{reader_from, fired_on}
-use Rattle.strc_emit_runs.specs.Steps.{FiresTo, TakesThere, StepsShow}
+use Rattle.strc_emit_runs.specs.Steps.{FiresTo, TakesThere, StepsShow, pops_next}
+use Rattle.strc_emit_runs.proofs.Places.{moved_more}
 use Rattle.strc_emit_runs.proofs.Slides.{windows_move}
 
-module _ (graph : flat.Graph NodeCode) (program : Program) (round : ℕ) (fired : ℕ → ℕ)
-    (now : Queues) (running after : Running) (node : ℕ) (state : List ℤ) (pushes : ByPort)
-    (printed : List Word) (shows : RoundShows program round fired now running)
-    (takes : TakesThere graph program now node)
-    (fires : FiresTo program node fired state pushes printed running after) where
+-- the number of the firing after one
+number_more : (program : Program) (when : Phase) (node i round : ℕ)
+    → suc (firing_number program when node i round)
+    ≡ firing_number program when node (i + 1) round
+number_more program phase.Startup node i round = omega arith
+number_more program phase.Round node i round = omega arith
+
+module _ (graph : flat.Graph NodeCode) (program : Program) (when : Phase) (round : ℕ)
+    (fired : ℕ → ℕ) (now : Queues) (running after : Running) (node : ℕ) (state : List ℤ)
+    (pushes : ByPort) (printed : List Word) (shows : RunShows program when round fired now running)
+    (takes : TakesThere graph program when fired now node)
+    (fires : FiresTo program when node fired state pushes printed running after) where
   abbrev next_fired : ℕ → ℕ
   next_fired = fired_on fired node 1
 
   abbrev queue : Channel → List ℤ
   queue channel = now.queues channel.target.node channel.target.port
 
+  -- how many items a firing of a channel's ends moves
   abbrev pops : Channel → ℕ
-  pops channel = pops_of program.network.nodes.now channel.target.node 1 channel.target.port
-
-  abbrev gives : Channel → ℕ
-  gives channel = pushes_of program.network.nodes.now channel.source.node 1 channel.source.port
+  pops channel = pops_next program when channel.target.node (fired node) channel.target.port
 
   -- how many items leave a channel, and which come
   abbrev taken : Channel → ℕ
@@ -53,52 +61,73 @@ module _ (graph : flat.Graph NodeCode) (program : Program) (round : ℕ) (fired 
   abbrev come : Channel → List ℤ
   come channel = cond (channel.source.node == node) (pushes channel.source.port) []
 
-  begins : (channel : Channel)
-      → items_begin program channel next_fired ≡ items_begin program channel fired + taken channel
+  -- where a channel's items begin and end, by how often its ends have fired
+  abbrev taken_by : Channel → ℕ → ℕ
+  taken_by channel n = moved_in when
+      (pops_of program.network.nodes.now channel.target.node 0 channel.target.port)
+      (pops_of program.network.nodes.now channel.target.node 1 channel.target.port) n
+
+  abbrev come_by : ℕ → Channel → ℕ → ℕ
+  come_by number channel n = items_before program when number channel + moved_in when
+      (pushes_of program.network.nodes.now channel.source.node 0 channel.source.port)
+      (pushes_of program.network.nodes.now channel.source.node 1 channel.source.port) n
+
+  begins : (channel : Channel) → items_begin program when channel next_fired
+      ≡ items_begin program when channel fired + taken channel
   begins channel = by (cases_eq channel.target.node node)
     where
       by : (channel.target.node ≡ node) ⊎ (channel.target.node ≡ node → ⊥)
-          → items_begin program channel next_fired
-          ≡ items_begin program channel fired + taken channel
+          → taken_by channel (next_fired channel.target.node)
+          ≡ taken_by channel (fired channel.target.node) + taken channel
       by (inl is) =
           let own : (channel.target.node == node) ≡ true = eq-eqb channel.target.node node is in
           let more : fired node ≡ fired channel.target.node = ap fired (sym is) in
-          ap (λ t. pops channel * cond t (fired node + 1) (fired channel.target.node)) own
-          ∙ ap (λ n. pops channel * (n + 1)) more
-          ∙ omega arith
-          ∙ sym (ap (λ t. items_begin program channel fired + cond t (pops channel) 0) own)
+          ap (λ t. taken_by channel (cond t (fired node + 1) (fired channel.target.node))) own
+          ∙ moved_more when
+          (pops_of program.network.nodes.now channel.target.node 0 channel.target.port)
+          (pops_of program.network.nodes.now channel.target.node 1 channel.target.port) (fired node)
+          ∙ ap (λ n. taken_by channel n + pops channel) more
+          ∙ sym (ap (λ t. taken_by channel (fired channel.target.node)
+          + cond t (pops channel) 0) own)
       by (inr differ) =
           let apart : (channel.target.node == node) ≡ false =
           ne_eqb channel.target.node node differ in
-          ap (λ t. pops channel * cond t (fired node + 1) (fired channel.target.node)) apart
+          ap (λ t. taken_by channel (cond t (fired node + 1) (fired channel.target.node))) apart
           ∙ omega arith
-          ∙ sym (ap (λ t. items_begin program channel fired + cond t (pops channel) 0) apart)
+          ∙ sym (ap (λ t. taken_by channel (fired channel.target.node)
+          + cond t (pops channel) 0) apart)
 
   ends_by : (number : ℕ) (channel : Channel)
       → slice_get program.network.channels.now number ≡ Some channel
-      → items_end program number channel next_fired
-      ≡ items_end program number channel fired + length (come channel)
+      → items_end program when number channel next_fired
+      ≡ items_end program when number channel fired + length (come channel)
   ends_by number channel at = by (cases_eq channel.source.node node)
     where
       by : (channel.source.node ≡ node) ⊎ (channel.source.node ≡ node → ⊥)
-          → items_end program number channel next_fired
-          ≡ items_end program number channel fired + length (come channel)
+          → come_by number channel (next_fired channel.source.node)
+          ≡ come_by number channel (fired channel.source.node) + length (come channel)
       by (inl is) =
           let own : (channel.source.node == node) ≡ true = eq-eqb channel.source.node node is in
           let more : fired node ≡ fired channel.source.node = ap fired (sym is) in
-          let left : ℕ = slice_index program.network.left.now number in
-          ap (λ t. left + gives channel * cond t (fired node + 1) (fired channel.source.node)) own
-          ∙ ap (λ n. left + gives channel * (n + 1)) more
-          ∙ omega (arith, fires.sizes number channel at is)
-          ∙ sym (ap (λ t. items_end program number channel fired
+          let next = moved_more when
+          (pushes_of program.network.nodes.now channel.source.node 0 channel.source.port)
+          (pushes_of program.network.nodes.now channel.source.node 1 channel.source.port)
+          (fired node) in
+          let sum : come_by number channel (fired node + 1)
+          ≡ come_by number channel (fired node) + length (pushes channel.source.port) =
+          omega (arith, next, fires.sizes number channel at is) in
+          ap (λ t. come_by number channel (cond t (fired node + 1) (fired channel.source.node))) own
+          ∙ sum
+          ∙ ap (λ n. come_by number channel n + length (pushes channel.source.port)) more
+          ∙ sym (ap (λ t. come_by number channel (fired channel.source.node)
           + length (cond t (pushes channel.source.port) [])) own)
       by (inr differ) =
           let apart : (channel.source.node == node) ≡ false =
           ne_eqb channel.source.node node differ in
-          let left : ℕ = slice_index program.network.left.now number in
-          ap (λ t. left + gives channel * cond t (fired node + 1) (fired channel.source.node)) apart
+          ap (λ t. come_by number channel (cond t (fired node + 1) (fired channel.source.node)))
+          apart
           ∙ omega arith
-          ∙ sym (ap (λ t. items_end program number channel fired
+          ∙ sym (ap (λ t. come_by number channel (fired channel.source.node)
           + length (cond t (pushes channel.source.port) [])) apart)
 
   taken_few : (number : ℕ) (channel : Channel)
@@ -132,30 +161,30 @@ module _ (graph : flat.Graph NodeCode) (program : Program) (round : ℕ) (fired 
 
   items_stand : (number : ℕ) (channel : Channel)
       → slice_get program.network.channels.now number ≡ Some channel
-      → StandFrom number (items_begin program channel next_fired)
+      → StandFrom number (items_begin program when channel next_fired)
       (drop (taken channel) (queue channel) ++ come channel) after.cells
   items_stand number channel at =
       subst (λ s. StandFrom number s (drop (taken channel) (queue channel) ++ come channel)
       after.cells) (sym (begins channel))
-      (windows_move number (items_begin program channel fired) (taken channel) (queue channel)
+      (windows_move number (items_begin program when channel fired) (taken channel) (queue channel)
       (come channel) running.cells after.cells (taken_few number channel at)
       (shows.items number channel at)
-      (λ place lt. fires.kept number channel (items_begin program channel fired + place) at
+      (λ place lt. fires.kept number channel (items_begin program when channel fired + place) at
       (omega (arith, lt, shows.ends number channel at)))
       (subst (λ s. StandFrom number s (come channel) after.cells)
       (sym (shows.ends number channel at)) (by (channel.source.node == node) refl)))
     where
       by : (t : Bool) → (channel.source.node == node) ≡ t
-          → StandFrom number (items_end program number channel fired)
+          → StandFrom number (items_end program when number channel fired)
           (cond t (pushes channel.source.port) []) after.cells
       by true e = fires.gives number channel at (eqb-true channel.source.node node e)
       by false e = λ place lt. absurd (omega (arith, lt))
 
   ends_are : (number : ℕ) (channel : Channel)
       → slice_get program.network.channels.now number ≡ Some channel
-      → items_begin program channel next_fired
+      → items_begin program when channel next_fired
       + length (drop (taken channel) (queue channel) ++ come channel)
-      ≡ items_end program number channel next_fired
+      ≡ items_end program when number channel next_fired
   ends_are number channel at =
       omega (
         arith,
@@ -201,22 +230,23 @@ module _ (graph : flat.Graph NodeCode) (program : Program) (round : ℕ) (fired 
 
 pub steps_show : StepsShow
 unfolding fifo_after put after_firing
-steps_show graph program round fired now running after node state pushes printed shows takes fires =
+steps_show graph program when round fired now running after node state pushes printed shows takes
+    fires =
     record {
       round_is = fires.round ∙ shows.round_is;
       items = λ number channel at.
-          subst (λ l. StandFrom number (items_begin program channel (fired_on fired node 1)) l
-          after.cells) (sym (queue_is graph program round fired now running after node state pushes
-          printed shows takes fires number channel at))
-          (items_stand graph program round fired now running after node state pushes printed shows
-          takes fires number channel at);
+          subst (λ l. StandFrom number (items_begin program when channel (fired_on fired node 1)) l
+          after.cells) (sym (queue_is graph program when round fired now running after node state
+          pushes printed shows takes fires number channel at))
+          (items_stand graph program when round fired now running after node state pushes printed
+          shows takes fires number channel at);
       ends = λ number channel at.
-          ap (λ l. items_begin program channel (fired_on fired node 1) + length l)
-          (queue_is graph program round fired now running after node state pushes printed shows
+          ap (λ l. items_begin program when channel (fired_on fired node 1) + length l)
+          (queue_is graph program when round fired now running after node state pushes printed shows
           takes fires number channel at)
-          ∙ ends_are graph program round fired now running after node state pushes printed shows
-          takes fires number channel at;
-      fields = λ other slot. fields_by other slot (eqb other node) refl;
+          ∙ ends_are graph program when round fired now running after node state pushes printed
+          shows takes fires number channel at;
+      fields = λ other slot code at. fields_by other slot code at (eqb other node) refl;
       counts = λ other name filter at. counts_by other name filter at (eqb other node) refl;
       numbers = λ other. numbers_by other (eqb other node) refl;
       tapes = λ other. tapes_by other (eqb other node) refl;
@@ -227,14 +257,15 @@ steps_show graph program round fired now running after node state pushes printed
     ran : Run (List ℤ) Cause Word
     ran = after_firing node_meaning (graph.code node) (now.runs node) (Fires state pushes printed)
 
-    fields_by : (other slot : ℕ) (t : Bool) → eqb other node ≡ t
+    fields_by : (other slot : ℕ) (code : NodeCode) → code_at program other ≡ Some code → (t : Bool)
+        → eqb other node ≡ t
         → slot < length (cond t ran (now.runs other)).state
         → after.cells (Field other slot)
         ≡ get_or (cond t ran (now.runs other)).state slot (pos 0)
-    fields_by other slot true e lt =
+    fields_by other slot code at true e lt =
         ap (λ n. after.cells (Field n slot)) (eqb-true other node e) ∙ fires.own slot lt
-    fields_by other slot false e lt =
-        fires.others other slot (eqb-false other node e) ∙ shows.fields other slot lt
+    fields_by other slot code at false e lt =
+        fires.others other slot (eqb-false other node e) ∙ shows.fields other slot code at lt
 
     counts_by : (other : ℕ) (name : Option (List ℕ)) (filter : Filter)
         → code_at program other ≡ Some (graphs.Filter name filter) → (t : Bool)
@@ -249,12 +280,12 @@ steps_show graph program round fired now running after node state pushes printed
 
     numbers_by : (other : ℕ) (t : Bool) → eqb other node ≡ t
         → (cond t ran (now.runs other)).fired
-        ≡ firing_number program phase.Round other (cond t (fired node + 1) (fired other)) round
+        ≡ firing_number program when other (cond t (fired node + 1) (fired other)) round
     numbers_by other true e =
         let same : other ≡ node = eqb-true other node e in
         ap suc (shows.numbers node)
-        ∙ omega arith
-        ∙ ap (λ n. firing_number program phase.Round n (fired node + 1) round) (sym same)
+        ∙ number_more program when node (fired node) round
+        ∙ ap (λ n. firing_number program when n (fired node + 1) round) (sym same)
     numbers_by other false e = shows.numbers other
 
     tapes_by : (other : ℕ) (t : Bool) → eqb other node ≡ t
@@ -278,8 +309,8 @@ steps_show graph program round fired now running after node state pushes printed
         → moved node_meaning graph node (now.runs node).fired now.queues pushes other 0
         ≡ drop (cond t ran (now.runs other)).fired program.input
     input_by other at true e =
-        input_left graph program round fired now running after node state pushes printed shows takes
-        fires other at true e
+        input_left graph program when round fired now running after node state pushes printed shows
+        takes fires other at true e
     input_by other at false e =
-        input_left graph program round fired now running after node state pushes printed shows takes
-        fires other at false e
+        input_left graph program when round fired now running after node state pushes printed shows
+        takes fires other at false e

@@ -202,6 +202,19 @@ call_done program phase.Startup node (Some code) from count running =
 call_done program phase.Round node (Some code) from count running =
     firings_done program phase.Round node code from count running
 
+-- the next firing of a node in start-up: the first one is the prework, where there is one
+abbrev pub first_firing : Program → (node : ℕ) → NodeCode → Option (Result Running Halt) → Running
+    → Result Running Halt
+first_firing program node code None running = firing_of program phase.Startup node code 0 running
+first_firing program node code (Some first) running = first
+
+abbrev pub next_firing : Program → Phase → (node : ℕ) → NodeCode → (i : ℕ) → Running
+    → Result Running Halt
+next_firing program phase.Startup node (graphs.Filter name filter) zero running =
+    first_firing program node (graphs.Filter name filter)
+    (prework_done program node (program.functions node).prework running) running
+next_firing program when node code i running = firing_of program when node code i running
+
 -- a call of a node's function: its firings from one number on, so many
 pub record NodeCall : Type 0 where
   pub node : ℕ
