@@ -1,7 +1,6 @@
 -- A firing goes in C as over queues.
 use Rattle.std.proofs.Common.{◌≡◌, ℕ, List, [], pos, Result, Ok, Err}
 use Rattle.std.proofs.Common.{refl, sym, ap, ap₂, ◌∙◌, subst}
-use Rattle.strc_work_meaning.specs.declared.body.Body.{Body}
 use Rattle.strc_work_meaning.specs.declared.body.Body.TheVariants as body
 use Rattle.strc_work_meaning.specs.declared.fault.Cause.{Cause}
 use Rattle.strc_work_meaning.specs.Filters.{filter_of}

@@ -1,5 +1,5 @@
 -- A firing of a filter leaves what it has to.
-use Rattle.std.proofs.Common.{◌≡◌, ℕ, zero, suc, ◌+◌, ◌*◌, ◌<◌, ℤ, pos, false}
+use Rattle.std.proofs.Common.{◌≡◌, ℕ, zero, suc, ◌+◌, ◌<◌, ℤ, pos, false}
 use Rattle.std.proofs.Common.{replicate, List, [], length, get_or, Option, Some, None, refl, sym}
 use Rattle.std.proofs.Common.{subst}
 use Rattle.std.proofs.lemmas.List.{length-replicate}
@@ -7,10 +7,9 @@ use Rattle.std.proofs.Common.{ap, ap₂, ◌∙◌, arith, ◌==◌, ◌&&◌, n
 use Rattle.std.specs.Prelude.{slice_get}
 use Rattle.std.proofs.lemmas.Bool.{ne_eqb, cases_eq, and_left, and_right, lt-leb}
 use Rattle.std.proofs.lemmas.Option.{slice_get_within}
-use Rattle.strc_parse_tree.specs.declared.tree.FilterTree.{FilterTree}
 use Rattle.strc_work_meaning.specs.declared.body.Body.TheVariants as body
 use Rattle.strc_work_meaning.specs.Filters.{filter_of}
-use Rattle.strc_work_meaning.specs.Firing.{Fired, fired, turn_limit}
+use Rattle.strc_work_meaning.specs.Firing.{Fired, fired}
 use Rattle.strc_elab_dataflow.specs.Node.{ByPort, at_port_0}
 use Rattle.strc_elab_graph.specs.declared.graph.Channel.{Channel}
 use Rattle.strc_emit_c.specs.Meaning.{Field, Item, Standing}
@@ -24,7 +23,7 @@ use Rattle.strc_emit_runs.specs.Running.{Program, Running, no_output, memory_of,
 use Rattle.strc_emit_runs.specs.Running.{work_done, around, first_source, first_target}
 use Rattle.strc_emit_runs.specs.Places.{moved_in}
 use Rattle.strc_emit_passes.specs.Passing.{FindsItems}
-use Rattle.strc_emit_runs.specs.Works.{HasFilter, side, stand_at, FindsBody, BodyShows}
+use Rattle.strc_emit_runs.specs.Works.{side, stand_at, FindsBody, BodyShows}
 use Rattle.strc_emit_runs.specs.Orders.{Queues, RunShows, items_begin, items_end}
 use Rattle.strc_emit_runs.specs.Steps.{FiresTo, pushes_next}
 use Rattle.strc_emit_runs.specs.PassingSteps.{TakesOf, GivesOf, IsWired, IsSteady, GivesRates}
