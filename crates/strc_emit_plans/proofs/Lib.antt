@@ -1,0 +1,10 @@
+pub mod Networks
+pub mod Filters
+pub mod Calls
+pub mod Orders
+pub mod Rooms
+pub mod Programs
+pub mod Rounds
+pub mod Finds
+pub mod Firsts
+pub mod Answers

@@ -1,0 +1,6 @@
+pub mod Networks
+pub mod Calls
+pub mod Programs
+pub mod Finds
+pub mod Firsts
+pub mod Answers
