@@ -51,20 +51,27 @@ pub(crate) fn push_hint(
 
 /// How a broken rule on types, kinds and parts can be mended, at this place.
 fn mismatch_hint_at(source: Source<'_>, mismatch: Mismatch, place: Option<Span>) -> &'static [u8] {
-    match (mismatch, place) {
-        (Mismatch::Value(ValueType::Int, ValueType::Boolean), Some(place))
-        | (Mismatch::Value(ValueType::Boolean, ValueType::Int), Some(place))
-            if compares_bits(source, place) => {
-            b"a comparison goes before `&`, `^` and `|`: write `(x & 1) == 0`"
+    let Some(place) = place else {
+        return mismatch_hint(mismatch);
+    };
+    if is_of_both_kinds(mismatch) && compares_bits(source, place) {
+        return b"a comparison goes before `&`, `^` and `|`: write `(x & 1) == 0`";
+    }
+    match mismatch {
+        Mismatch::Missing(_, Part::Add) if block_has(source, place.start, Keyword::Add) => {
+            b"with these arguments nothing is added: `add Identity<int>();` passes items on"
         }
-        (Mismatch::Missing(_, Part::Add), Some(place))
-            if block_has(source, place.start, Keyword::Add) => {
-            b"with these arguments no statement adds a stream: `add Identity<int>();` passes items on"
-        }
-        (Mismatch::NoCalls, Some(place)) if begins(source, place, b"setDelay") => {
-            DELAYS.as_bytes()
-        }
+        Mismatch::NoCalls if begins(source, place, b"setDelay") => DELAYS.as_bytes(),
         _ => mismatch_hint(mismatch),
+    }
+}
+
+/// Whether a number stands where a truth value is wanted, or the other way.
+fn is_of_both_kinds(mismatch: Mismatch) -> bool {
+    match mismatch {
+        Mismatch::Value(ValueType::Int, ValueType::Boolean) => true,
+        Mismatch::Value(ValueType::Boolean, ValueType::Int) => true,
+        _ => false,
     }
 }
 
