@@ -1,6 +1,7 @@
 -- The numbers before the first word that writes none.
 use Rattle.std.proofs.Common.{◌≡◌, ℕ, suc, true, List, [], ◌∷◌, ◌++◌, length, Option}
-use Rattle.std.proofs.Common.{Some, None, Result, Ok, Err, refl, sym, ap, ◌∙◌, ℤ, inl, inr, arith, ◌+◌}
+use Rattle.std.proofs.Common.{Some, None, Result, Ok, Err, refl, sym, ap, ◌∙◌, ℤ, inl, inr, arith}
+use Rattle.std.proofs.Common.{◌+◌}
 use Rattle.std.specs.Char.{is_ascii_whitespace}
 use Rattle.strc_cli_input.specs.Numbers.{words_of, words, int_of, put_first, ints_from}
 use Rattle.strc_cli_input.specs.Numbers.{put_given, given_of, given}

@@ -27,8 +27,8 @@ append_none : {A : Type 0} (l : List A) → l ++ [] ≡ l
 append_none [] = refl
 append_none (first ∷ rest) = ap (λ l. first ∷ l) (append_none rest)
 
-pub append_more : {A : Type 0} (l : List A) (x : A) (more : List A) → (l ++ x ∷ []) ++ more ≡ l ++ x ∷
-    more
+pub append_more : {A : Type 0} (l : List A) (x : A) (more : List A)
+    → (l ++ x ∷ []) ++ more ≡ l ++ x ∷ more
 append_more [] x more = refl
 append_more (first ∷ rest) x more = ap (λ l. first ∷ l) (append_more rest x more)
 
@@ -63,7 +63,8 @@ split_at (first ∷ more) byte rest dark space =
     slice_split-cons_no is_ascii_whitespace first (more ++ byte ∷ rest) dark.0
     ∙ ap (onto_first first) (split_at more byte rest dark.1 space)
 
-pub darker : (bytes : List ℕ) (byte : ℕ) → AreDark bytes → IsDark byte → AreDark (bytes ++ byte ∷ [])
+pub darker : (bytes : List ℕ) (byte : ℕ) → AreDark bytes → IsDark byte
+    → AreDark (bytes ++ byte ∷ [])
 darker [] byte dark is = (is, tt)
 darker (first ∷ rest) byte dark is = (dark.0, darker rest byte dark.1 is)
 

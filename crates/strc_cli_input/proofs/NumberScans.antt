@@ -1,6 +1,6 @@
 -- Bytes at hand that are read one after another.
-use Rattle.std.proofs.Common.{◌≡◌, ℕ, suc, ◌+◌, ◌<◌, ◌≤◌, ℤ, List, [], ◌∷◌, ◌++◌, length, take, drop}
-use Rattle.std.proofs.Common.{get_or, refl, sym, ap, ◌∙◌, add-one, append_assoc, arith}
+use Rattle.std.proofs.Common.{◌≡◌, ℕ, suc, ◌+◌, ◌<◌, ◌≤◌, ℤ, List, [], ◌∷◌, ◌++◌, length, take}
+use Rattle.std.proofs.Common.{drop, get_or, refl, sym, ap, ◌∙◌, add-one, append_assoc, arith}
 use Rattle.std.proofs.lemmas.List.{get_or-take, length-take-le, drop_all, length-take}
 use Rattle.std.proofs.Math.Seq.{drop-cons}
 use Rattle.strc_cli_input.specs.Reading.{Reads, Fails, byte_read, bytes_read}
@@ -22,7 +22,8 @@ drop_one piece next filled d less within =
     ∙ ap (λ n. get_or piece next d ∷ drop n (take filled piece)) (sym (add-one next))
 
 -- the next byte at hand, and those after it
-pub rest_after : (before bumped after : NumberReader) (d : ℕ) → IsWithin before → before.next < before.filled
+pub rest_after : (before bumped after : NumberReader) (d : ℕ) → IsWithin before
+    → before.next < before.filled
     → bumped.piece ≡ before.piece → bumped.next ≡ before.next + 1
     → bumped.filled ≡ before.filled → HasSameBytes bumped after
     → rest_of before ≡ get_or before.piece.items before.next d ∷ rest_of after
@@ -31,7 +32,8 @@ rest_after before bumped after d within less piece next filled to =
     ∙ ap (λ p. get_or before.piece.items before.next d
     ∷ drop (before.next + 1) (take before.filled p))
     (sym (ap (λ v. v.items) (to.piece ∙ piece)))
-    ∙ ap (λ n. get_or before.piece.items before.next d ∷ drop n (take before.filled after.piece.items))
+    ∙ ap (λ n. get_or before.piece.items before.next d
+    ∷ drop n (take before.filled after.piece.items))
     (sym (to.next ∙ next))
     ∙ ap (λ n. get_or before.piece.items before.next d ∷ drop after.next (take n after.piece.items))
     (sym (to.filled ∙ filled))

@@ -1,9 +1,10 @@
 -- The input as far as it has been read, byte by byte.
 use Rattle.std.specs.Prelude.{◌≡◌, ℕ, ◌+◌, ◌*◌, ℤ, Bool, true, false, nat_eq, nat_lt, List, []}
 use Rattle.std.specs.Prelude.{◌∷◌, ◌++◌, length, Option, Some, None, Result, Ok, Err}
-use Rattle.std.specs.Prelude.{if◌then◌else◌}
+use Rattle.std.specs.Prelude.{if◌then◌else◌, codes, neg_ℤ, pos}
 use Rattle.std.specs.Char.{is_ascii_whitespace, is_digit, digit_value}
 use Rattle.strc_cli_input.specs.Numbers.{most, signed, minus, ints, given}
+use Rattle.strc_cli_input.specs.Numbers.{wrong_word}
 use Rattle.strc_cli_input.specs.declared.numbers.Word.{Word}
 use Rattle.strc_cli_input.specs.declared.numbers.Word.TheVariants as word
 
@@ -92,3 +93,8 @@ abbrev pub GivenIsSo : Type 0
 GivenIsSo = (bytes : List ℕ)
     → ((numbers : List ℤ) → ints bytes ≡ Ok numbers → given bytes ≡ numbers)
     × ((number : ℕ) → ints bytes ≡ Err number → length (given bytes) ≡ number)
+
+-- Of `5 -6 x 7` the first two words write numbers, and word 2 writes none.
+pub record GivenRow : Type 0 where
+  pub numbers : given (codes "5 -6 x 7") ≡ pos 5 ∷ neg_ℤ (pos 6) ∷ []
+  pub wrong : wrong_word (codes "5 -6 x 7") ≡ Some 2

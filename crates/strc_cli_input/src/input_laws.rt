@@ -1,6 +1,7 @@
 // Reading byte by byte gives the numbers of the whole input.
 
 ghost use Rattle.strc_cli_input.specs.Reading.{FailsForGood, GivenBeginsSo, GivenIsSo};
+ghost use Rattle.strc_cli_input.specs.Reading.{GivenRow};
 ghost use Rattle.strc_cli_input.specs.Reading.{ReadsInPieces, ReadsInts};
 
 /// Reading byte by byte gives the numbers of the bytes.
@@ -26,4 +27,9 @@ pub fn given_begins_so()
 /// An input gives all of its numbers, or as many as are before its first wrong word.
 pub fn given_is_so()
     ensures { GivenIsSo }
+{}
+
+/// Of `5 -6 x 7` two numbers are given, and word 2 writes none.
+pub fn given_row()
+    ensures { GivenRow }
 {}

@@ -48,8 +48,8 @@ impl NumberReader {
         })
     }
 
-    /// Reads on until a number ends, none where the input ends before. `BadInput` comes as soon as a
-    /// word can't be a number any more, `Failed` where a read fails.
+    /// Reads on until a number ends, none where the input ends before. `BadInput` comes as soon as
+    /// a word can't be a number any more, `Failed` where a read fails.
     pub fn pull<I: Source>(&mut self, input: &mut I) -> Result<Option<i32>, ReadStop>
         requires within { IsWithin self.old }
         requires count { self.old.count + 1 < 18446744073709551616 }
@@ -82,8 +82,8 @@ impl NumberReader {
         Ok(None)
     }
 
-    /// The next numbers, so many of them; fewer where the input ends before. `BadInput` and `Failed`
-    /// as above, with the numbers before.
+    /// The next numbers, so many of them; fewer where the input ends before. `BadInput` and
+    /// `Failed` as above, with the numbers before.
     pub fn fill<I: Source>(
         &mut self,
         input: &mut I,
