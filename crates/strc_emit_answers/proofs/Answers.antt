@@ -1,0 +1,101 @@
+-- The program of a plan's text ends as the stream equations say.
+use Rattle.std.proofs.Common.{◌≡◌, ℕ, ◌<◌, ◌≤◌, ◌^◌, List, sym, subst, length, arith}
+use Rattle.strc_elab_stream.specs.Flattening.{tree_of}
+use Rattle.strc_balance.specs.Balance.{count_at}
+use Rattle.strc_startup.specs.Rates.{rates_of}
+use Rattle.strc_sched_orders.specs.Schedules.{IsSchedule}
+use Rattle.strc_sched_laws.specs.Planned.{AreKnown}
+use Rattle.strc_stage_plan.specs.Plans.{PlanParts, IsPlan, graph_of}
+use Rattle.strc_emit_moves.specs.Rooms.{total_room}
+use Rattle.strc_emit_moves.specs.declared.places.Network.{Network}
+use Rattle.strc_emit_program.specs.Programs.{AreTexts, IsNumbered}
+use Rattle.strc_emit_runs.specs.Running.{Program}
+use Rattle.strc_emit.specs.Emitting as emit
+use Rattle.strc_emit.specs.Emitting.{IsProgramOf}
+use Rattle.strc_emit_plans.specs.Networks.{IsNetworkOf}
+use Rattle.strc_emit_plans.specs.Programs.{IsPlannedProgram, IsProgramFor, AreFunctionsOf}
+use Rattle.strc_emit_plans.proofs.Answers.{programs_answer}
+use Rattle.strc_emit_answers.specs.Answers.{IsTextProgram, KeepSides, PlansAnswer}
+use Rattle.strc_emit_answers.specs.Spelled.{SpellsNodes}
+use Rattle.strc_emit_answers.proofs.Drained.{given_goes_on}
+use Rattle.strc_emit_answers.proofs.Spelled.{texts_spell}
+
+-- the network of a plan is that of its graph
+network_is : (plan : PlanParts) (network : Network) → emit.IsNetworkOf plan network
+    → IsNetworkOf plan.graph plan.startup_counts plan.round_counts plan.schedule network
+network_is plan network is = record {
+  parts = record {
+    nodes = is.parts.nodes;
+    channels = is.parts.channels;
+    left = is.parts.left;
+    startup_is = is.parts.startup;
+    round_is = is.parts.round;
+  };
+  circuit = is.circuit;
+  is = is.is;
+  inputs = is.inputs;
+  outputs = is.outputs;
+}
+
+module _ (plan : PlanParts) (text : List ℕ) (written : IsProgramOf plan text) (program : Program)
+    (of : IsTextProgram plan text written program) where
+  functions : AreFunctionsOf program
+  functions = by written.network of.network written.written.0 written.written.1 of.spells
+    where
+      by : (network : Network) → program.network ≡ network → (functions : List ℕ)
+          → (are : AreTexts (IsNumbered network) (length network.nodes.now) functions)
+          → SpellsNodes program network (length network.nodes.now) functions are
+          → AreFunctionsOf program
+      by network same = subst (λ (it : Network). (functions : List ℕ)
+          → (are : AreTexts (IsNumbered it) (length it.nodes.now) functions)
+          → SpellsNodes program it (length it.nodes.now) functions are
+          → AreFunctionsOf program) same (texts_spell program)
+
+  program_is : IsProgramFor plan.graph plan.startup_counts plan.round_counts plan.schedule program
+  program_is = record {
+    is = subst (IsNetworkOf plan.graph plan.startup_counts plan.round_counts plan.schedule)
+        (sym of.network) (network_is plan written.network written.is);
+    functions = functions;
+    small = subst (λ network. total_room network < 2 ^ 31) (sym of.network)
+        (below_int (total_room written.network) written.within);
+    fuel = of.fuel;
+  }
+    where
+      below_int : (items : ℕ) → items ≤ 268435456 → items < 2 ^ 31
+      below_int items within = omega (arith, within)
+
+  module _ (is : IsPlan plan) where
+    -- its counts are the ones that its graph is planned with
+    greedy : IsSchedule (rates_of (graph_of plan)) (count_at is.planned.startup)
+        (count_at is.planned.round) plan.schedule
+    greedy =
+        subst (λ counts. IsSchedule (rates_of (graph_of plan)) (count_at counts)
+        (count_at is.planned.round) plan.schedule) (sym is.startup_is)
+        (subst (λ counts. IsSchedule (rates_of (graph_of plan)) (count_at plan.startup_counts)
+        (count_at counts) plan.schedule) (sym is.round_is) is.schedule.is)
+
+    counted : IsProgramFor plan.graph is.planned.startup is.planned.round plan.schedule program
+    counted =
+        subst (λ counts. IsProgramFor plan.graph counts is.planned.round plan.schedule program)
+        (sym is.startup_is)
+        (subst (λ counts. IsProgramFor plan.graph plan.startup_counts counts plan.schedule program)
+        (sym is.round_is) program_is)
+
+    planned : AreKnown (graph_of plan) → KeepSides (graph_of plan)
+        → IsPlannedProgram (tree_of is.whole.stream) plan.graph plan.schedule program
+    planned known sides = record {
+      whole = is.whole.program;
+      planned = is.planned;
+      known = known;
+      somewhere = record {
+        sides = sides;
+        drained = λ node port gives. given_goes_on (graph_of plan) node port is.whole gives;
+      };
+      greedy = greedy;
+      is = counted;
+    }
+
+pub plans_answer : PlansAnswer
+plans_answer plan text written program rounds first is known sides of few input begins =
+    programs_answer (tree_of is.whole.stream) plan.graph plan.schedule program rounds first
+    (planned plan text written program of is known sides) few input begins

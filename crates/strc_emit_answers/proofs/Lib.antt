@@ -1,0 +1,5 @@
+pub mod Begins
+pub mod Splits
+pub mod Drained
+pub mod Spelled
+pub mod Answers
