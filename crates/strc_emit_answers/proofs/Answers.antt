@@ -1,5 +1,11 @@
 -- The program of a plan's text ends as the stream equations say.
-use Rattle.std.proofs.Common.{◌≡◌, ℕ, ◌<◌, ◌≤◌, ◌^◌, List, sym, subst, length, arith}
+use Rattle.std.proofs.Common.{◌≡◌, ℕ, ◌<◌, ◌≤◌, ◌^◌, List, sym, subst, length, arith, ap, ◌∙◌}
+use Rattle.std.proofs.lemmas.Option.{slice_get-map}
+use Rattle.std.specs.Option.{option_map}
+use Rattle.std.specs.Prelude.{slice_get}
+use Rattle.strc_work_meaning.specs.Filters.{filter_of}
+use Rattle.strc_elab_graph.specs.declared.graph.Node.{Node}
+use Rattle.strc_elab_graph.specs.NodeView.{node_view}
 use Rattle.strc_elab_stream.specs.Flattening.{tree_of}
 use Rattle.strc_balance.specs.Balance.{count_at}
 use Rattle.strc_startup.specs.Rates.{rates_of}
@@ -16,7 +22,7 @@ use Rattle.strc_emit_plans.specs.Networks.{IsNetworkOf}
 use Rattle.strc_emit_plans.specs.Programs.{IsPlannedProgram, IsProgramFor, AreFunctionsOf}
 use Rattle.strc_emit_plans.proofs.Answers.{programs_answer}
 use Rattle.strc_emit_answers.specs.Answers.{IsTextProgram, KeepSides, PlansAnswer}
-use Rattle.strc_emit_answers.specs.Spelled.{SpellsNodes}
+use Rattle.strc_emit_answers.specs.Spelled.{AreClosed, SpellsNodes}
 use Rattle.strc_emit_answers.proofs.Drained.{given_goes_on}
 use Rattle.strc_emit_answers.proofs.Spelled.{texts_spell}
 
@@ -38,18 +44,29 @@ network_is plan network is = record {
 }
 
 module _ (plan : PlanParts) (text : List ℕ) (written : IsProgramOf plan text) (program : Program)
-    (of : IsTextProgram plan text written program) where
+    (of : IsTextProgram plan text written program) (known : AreKnown (graph_of plan)) where
+  closed : AreClosed program
+  closed number instance at =
+      let same : slice_get plan.graph.nodes number ≡ slice_get program.network.nodes.now number =
+      sym (ap (λ (network : Network). slice_get network.nodes.now number) of.network
+      ∙ ap (λ (nodes : List Node). slice_get nodes number) written.is.parts.nodes) in
+      known (filter_of instance.code) (
+        number,
+        instance.name,
+        slice_get-map node_view plan.graph.nodes number ∙ ap (option_map node_view) (same ∙ at),
+      )
+
   functions : AreFunctionsOf program
-  functions = by written.network of.network written.written.0 written.written.1 of.spells
+  functions = by written.network of.network written.written.0 written.written.1 of.spells closed
     where
       by : (network : Network) → program.network ≡ network → (functions : List ℕ)
           → (are : AreTexts (IsNumbered network) (length network.nodes.now) functions)
           → SpellsNodes program network (length network.nodes.now) functions are
-          → AreFunctionsOf program
+          → AreClosed program → AreFunctionsOf program
       by network same = subst (λ (it : Network). (functions : List ℕ)
           → (are : AreTexts (IsNumbered it) (length it.nodes.now) functions)
           → SpellsNodes program it (length it.nodes.now) functions are
-          → AreFunctionsOf program) same (texts_spell program)
+          → AreClosed program → AreFunctionsOf program) same (texts_spell program)
 
   program_is : IsProgramFor plan.graph plan.startup_counts plan.round_counts plan.schedule program
   program_is = record {
@@ -81,9 +98,9 @@ module _ (plan : PlanParts) (text : List ℕ) (written : IsProgramOf plan text) 
         (subst (λ counts. IsProgramFor plan.graph plan.startup_counts counts plan.schedule program)
         (sym is.round_is) program_is)
 
-    planned : AreKnown (graph_of plan) → KeepSides (graph_of plan)
+    planned : KeepSides (graph_of plan)
         → IsPlannedProgram (tree_of is.whole.stream) plan.graph plan.schedule program
-    planned known sides = record {
+    planned sides = record {
       whole = is.whole.program;
       planned = is.planned;
       known = known;
@@ -98,4 +115,4 @@ module _ (plan : PlanParts) (text : List ℕ) (written : IsProgramOf plan text) 
 pub plans_answer : PlansAnswer
 plans_answer plan text written program rounds first is known sides of few input begins =
     programs_answer (tree_of is.whole.stream) plan.graph plan.schedule program rounds first
-    (planned plan text written program of is known sides) few input begins
+    (planned plan text written program of known is sides) few input begins

@@ -3,9 +3,12 @@ use Rattle.std.proofs.Common.{◌≡◌, ℕ, zero, suc, ◌<◌, ◌≤◌, Lis
 use Rattle.std.proofs.Common.{arith, ◌⊎◌, inl, inr, Ok}
 use Rattle.std.proofs.lemmas.Bool.{cases_lt}
 use Rattle.std.proofs.lemmas.Option.{slice_get_within}
-use Rattle.std.specs.Prelude.{slice_get, IfSome}
-use Rattle.strc_work_meaning.specs.Filters.{filter_of}
+use Rattle.std.specs.Prelude.{slice_get, IfSome, IfOk}
+use Rattle.strc_work_meaning.specs.Filters.{filter_of, sized_fields}
+use Rattle.strc_work_meaning.specs.Scoping.{total}
+use Rattle.strc_work_meaning.specs.Closed.{IsClosedFilter}
 use Rattle.strc_work_meaning.specs.Firing.{started}
+use Rattle.strc_rate.proofs.Started.{fields_fit}
 use Rattle.strc_elab_graph.specs.Graphs.{node_name}
 use Rattle.strc_elab_graph.specs.NodeView.{node_view}
 use Rattle.strc_elab_graph.specs.declared.graph.Node.{Node}
@@ -28,14 +31,22 @@ module _ (program : Program) (network : Network) where
       → SpellsNode program network number code text is → HasFunctions number instance
 
   filter_shows : (number : ℕ) (text : List ℕ) (instance : Instance)
+      → IsClosedFilter (filter_of instance.code)
       → Shows number text instance (Some (nodes.Filter instance))
-  filter_shows number text instance is spells = (
+  filter_shows number text instance closed is spells = (
     record {
       values = is.1.1.0;
       text = is.1.0;
       written = is.1.1.2;
       linked = spells.linked;
-      known = spells.known;
+      known = record {
+        closed = closed;
+        calls = spells.calls;
+        small = spells.small;
+        count = subst (λ result. IfOk result (λ values. length values
+            ≡ total (sized_fields (filter_of instance.code).members))) is.1.1.1
+            (fields_fit (filter_of instance.code) closed);
+      };
       functions = spells.functions;
     },
     is.1.1.1,
@@ -43,18 +54,19 @@ module _ (program : Program) (network : Network) where
 
   node_shows : (number : ℕ) (text : List ℕ) (instance : Instance)
       → slice_get network.nodes.now number ≡ Some (nodes.Filter instance)
+      → IsClosedFilter (filter_of instance.code)
       → Shows number text instance (slice_get network.nodes.now number)
-  node_shows number text instance at =
-      subst (Shows number text instance) (sym at) (filter_shows number text instance)
+  node_shows number text instance at closed =
+      subst (Shows number text instance) (sym at) (filter_shows number text instance closed)
 
   below_show : (count : ℕ) (text : List ℕ) (are : AreTexts (IsNumbered network) count text)
       → SpellsNodes program network count text are
       → (number : ℕ) (instance : Instance) → number < count
       → slice_get network.nodes.now number ≡ Some (nodes.Filter instance)
-      → HasFunctions number instance
-  below_show zero text are spells number instance less at = absurd (omega (arith, less))
-  below_show (suc count) text are spells number instance less at =
-      by (λ before. below_show count are.0 are.2 spells.0 number instance before at)
+      → IsClosedFilter (filter_of instance.code) → HasFunctions number instance
+  below_show zero text are spells number instance less at closed = absurd (omega (arith, less))
+  below_show (suc count) text are spells number instance less at closed =
+      by (λ before. below_show count are.0 are.2 spells.0 number instance before at closed)
       (cases_lt number count)
     where
       by : (number < count → HasFunctions number instance)
@@ -65,9 +77,10 @@ module _ (program : Program) (network : Network) where
           subst (λ k. HasFunctions k instance) last
           (node_shows count are.1 instance
           (subst (λ k. slice_get network.nodes.now k ≡ Some (nodes.Filter instance)) (sym last) at)
-          are.3 spells.1)
+          closed are.3 spells.1)
 
 pub texts_spell : TextsSpell
-texts_spell program text are spells number instance at =
+texts_spell program text are spells closed number instance at =
     below_show program program.network (length program.network.nodes.now) text are spells number
     instance (slice_get_within program.network.nodes.now number (nodes.Filter instance) at) at
+    (closed number instance at)
