@@ -1,5 +1,6 @@
 -- The program that a text of C spells.
-use Rattle.std.specs.Prelude.{◌≡◌, ℕ, zero, suc, ◌<◌, ◌^◌, ℤ, List, length, Option, Some, None, IfSome}
+use Rattle.std.specs.Prelude.{◌≡◌, ℕ, zero, suc, ◌<◌, ◌^◌, ℤ, List, length, Option, Some, None}
+use Rattle.std.specs.Prelude.{IfSome}
 use Rattle.std.specs.Prelude.{slice_get}
 use Rattle.strc_parse_tree.specs.declared.tree.FilterTree.{FilterTree}
 use Rattle.strc_work_meaning.specs.Filters.{filter_of}
@@ -19,8 +20,8 @@ use Rattle.strc_emit_program.specs.Programs.{AreTexts, IsBodiesText, IsNodeText,
 use Rattle.strc_emit_runs.specs.Running.{Program}
 use Rattle.strc_emit_plans.specs.Programs.{AreFunctionsOf}
 
--- the functions of a node are those that a filter's text spells; calls of helper functions know where
--- these stand, and have as many arguments as they take, and slots are numbered within an int
+-- the functions of a node are those that a filter's text spells; calls of helper functions know
+-- where these stand, and have as many arguments as they take, and slots are numbered within an int
 pub record IsSpelled (program : Program) (number : ℕ) (filter : FilterTree) (values : List ℤ)
     (text : List ℕ) (written : IsFilterText number filter values text) : Type 0 where
   pub functions : program.functions number ≡ written_functions written

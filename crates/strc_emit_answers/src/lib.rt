@@ -8,6 +8,8 @@
 
 ghost use Rattle.strc_emit_answers.specs.Given.{GivenGoesOn};
 ghost use Rattle.strc_emit_answers.specs.Answers.{PlansAnswer};
+ghost use Rattle.strc_emit_answers.specs.Fires.{FiresSpell};
+ghost use Rattle.strc_emit_answers.specs.Orders.{OrdersSpell, OrderRow};
 ghost use Rattle.strc_emit_answers.specs.Spelled.{TextsSpell};
 
 /// All that the nodes of a whole program give comes to a channel.
@@ -25,4 +27,20 @@ pub fn texts_spell()
 /// is never undefined.
 pub fn plans_answer()
     ensures { PlansAnswer }
+{}
+
+/// The text of an order spells functions that do, call by call, what the program does in it.
+pub fn orders_spell()
+    ensures { OrdersSpell }
+{}
+
+/// An order of one call, and of one move.
+pub fn order_row()
+    ensures { OrderRow }
+{}
+
+/// The text of the function of a node's firings spells one that does in each call what the program
+/// does in it.
+pub fn fires_spell()
+    ensures { FiresSpell }
 {}
