@@ -2,9 +2,11 @@
 use Rattle.std.proofs.Common.{◌≡◌, ℕ, ◌<◌, ◌≤◌, ◌^◌, List, sym, subst, length, arith, ap, ◌∙◌}
 use Rattle.std.proofs.lemmas.Option.{slice_get-map}
 use Rattle.std.specs.Option.{option_map}
-use Rattle.std.specs.Prelude.{slice_get}
+use Rattle.std.specs.Prelude.{slice_get, Some, true, false}
 use Rattle.strc_work_meaning.specs.Filters.{filter_of}
+use Rattle.strc_elab_graph.specs.Graphs as graphs
 use Rattle.strc_elab_graph.specs.declared.graph.Node.{Node}
+use Rattle.strc_elab_graph.specs.declared.graph.Node.TheVariants as nodes
 use Rattle.strc_elab_graph.specs.NodeView.{node_view}
 use Rattle.strc_elab_stream.specs.Flattening.{tree_of}
 use Rattle.strc_balance.specs.Balance.{count_at}
@@ -21,9 +23,11 @@ use Rattle.strc_emit.specs.Emitting.{IsProgramOf}
 use Rattle.strc_emit_plans.specs.Networks.{IsNetworkOf}
 use Rattle.strc_emit_plans.specs.Programs.{IsPlannedProgram, IsProgramFor, AreFunctionsOf}
 use Rattle.strc_emit_plans.proofs.Answers.{programs_answer}
-use Rattle.strc_emit_answers.specs.Answers.{IsTextProgram, KeepSides, PlansAnswer}
+use Rattle.strc_emit_answers.specs.Answers.{IsTextProgram, KeepSides, PlansAnswer, PlansSpell}
+use Rattle.strc_emit_answers.specs.Fires.{IsFired}
 use Rattle.strc_emit_answers.specs.Spelled.{AreClosed, SpellsNodes}
 use Rattle.strc_emit_answers.proofs.Drained.{given_goes_on}
+use Rattle.strc_emit_answers.proofs.Fires.{fires_spell}
 use Rattle.strc_emit_answers.proofs.Spelled.{texts_spell}
 
 -- the network of a plan is that of its graph
@@ -45,16 +49,18 @@ network_is plan network is = record {
 
 module _ (plan : PlanParts) (text : List ℕ) (written : IsProgramOf plan text) (program : Program)
     (of : IsTextProgram plan text written program) (known : AreKnown (graph_of plan)) where
-  closed : AreClosed program
-  closed number instance at =
+  there : (number : ℕ) (code : Node) → slice_get program.network.nodes.now number ≡ Some code
+      → slice_get (graph_of plan).nodes number ≡ Some (node_view code)
+  there number code at =
       let same : slice_get plan.graph.nodes number ≡ slice_get program.network.nodes.now number =
       sym (ap (λ (network : Network). slice_get network.nodes.now number) of.network
       ∙ ap (λ (nodes : List Node). slice_get nodes number) written.is.parts.nodes) in
-      known (filter_of instance.code) (
-        number,
-        instance.name,
-        slice_get-map node_view plan.graph.nodes number ∙ ap (option_map node_view) (same ∙ at),
-      )
+      slice_get-map node_view plan.graph.nodes number ∙ ap (option_map node_view) (same ∙ at)
+
+  closed : AreClosed program
+  closed number instance at =
+      known (filter_of instance.code)
+      (number, instance.name, there number (nodes.Filter instance) at)
 
   functions : AreFunctionsOf program
   functions = by written.network of.network written.written.0 written.written.1 of.spells closed
@@ -112,7 +118,34 @@ module _ (plan : PlanParts) (text : List ℕ) (written : IsProgramOf plan text) 
       is = counted;
     }
 
+    -- each node is a filter with its functions, or only passes items on
+    fired : (number : ℕ) (code : Node) → slice_get program.network.nodes.now number ≡ Some code
+        → IsFired program number code
+    fired number (nodes.Filter instance) at = (functions number instance at).0
+    fired number nodes.Identity at = tt
+    fired number (nodes.FileReader text) at = tt
+    fired number (nodes.FileWriter text) at = tt
+    fired number (nodes.Splitter splitter) at = tt
+    fired number (nodes.Joiner weights) at = tt
+    fired number (nodes.Scatter fission) at =
+        let not : true ≡ false = is.planned.unfissioned number (graphs.Scatter fission)
+        (there number (nodes.Scatter fission) at) in
+        absurd (cc)
+    fired number (nodes.Copy copied fission) at =
+        let not : true ≡ false = is.planned.unfissioned number
+        (node_view (nodes.Copy copied fission)) (there number (nodes.Copy copied fission) at) in
+        absurd (cc)
+    fired number (nodes.Gather fission) at =
+        let not : true ≡ false = is.planned.unfissioned number (graphs.Gather fission)
+        (there number (nodes.Gather fission) at) in
+        absurd (cc)
+
 pub plans_answer : PlansAnswer
 plans_answer plan text written program rounds first is known sides of few input begins =
     programs_answer (tree_of is.whole.stream) plan.graph plan.schedule program rounds first
     (planned plan text written program of known is sides) few input begins
+
+pub plans_spell : PlansSpell
+plans_spell plan text written program when number code is known of at =
+    fires_spell program when number code
+    (fired plan text written program of known is number code at)

@@ -21,14 +21,14 @@ use Rattle.strc_emit_passes.specs.Passing.{IsPassing}
 use Rattle.strc_emit_passes.proofs.Texts.{moves_are_spelled}
 use Rattle.strc_emit_filter.specs.Filters.{IsPreworkOf, has_helpers}
 use Rattle.strc_emit_bodies.specs.Spelling.{BodyFunction, FilterFunctions}
-use Rattle.strc_emit_program.specs.Fires.{fire_name, fires_text, first_text, firing_text}
+use Rattle.strc_emit_program.specs.Fires.{fire_name, first_text, firing_text}
 use Rattle.strc_emit_program.specs.Fires.{prework_call}
 use Rattle.strc_emit_runs.specs.Running.{Program, Running, firing_of, firings_done}
 use Rattle.strc_emit_runs.specs.Running.{prework_done, first_or_all, call_done}
 use Rattle.strc_emit_runs.specs.Works.{HasFilter}
 use Rattle.strc_emit_answers.specs.Fires.{Turn, Works, Passes, FireFunction}
-use Rattle.strc_emit_answers.specs.Fires.{first_spelled, function_spelled, turn_done, turns_done}
-use Rattle.strc_emit_answers.specs.Fires.{loop_done, function_done, FiresSpell}
+use Rattle.strc_emit_answers.specs.Fires.{first_spelled, turn_done, turns_done}
+use Rattle.strc_emit_answers.specs.Fires.{loop_done, function_done, FiresSpell, SpellsFires}
 use Rattle.strc_emit_answers.specs.Fires.{prework_called}
 use Rattle.strc_emit_answers.proofs.Orders.{then_same}
 
@@ -134,14 +134,8 @@ module _ (program : Program) (node : ℕ) where
       ++ codes "(int32_t from, int32_t to) {\n" ++ first
       ++ codes "    for (int32_t i = from; i < to; i++) {\n" ++ turn ++ codes "    }\n}\n"
 
-  abbrev Spells : Phase → Node → Type 0
-  Spells when code = (function : FireFunction)
-      × (fires_text program.network when node code ≡ function_spelled program when node function)
-      × ((from count : ℕ) (running : Running)
-      → call_done program when node (Some (node_view code)) from count running
-      ≡ function_done program when node function from count running)
-
-  passing_spells : (when : Phase) (code : Node) → IsPassing (node_view code) → Spells when code
+  passing_spells : (when : Phase) (code : Node) → IsPassing (node_view code)
+      → SpellsFires program when node code
   passing_spells when code is = (
     passes when (node_view code),
     ap (λ text. text_of when text (firing_text program.network when node code))
@@ -227,7 +221,7 @@ module _ (program : Program) (node : ℕ) where
         (program.functions node).prework from count running
 
   filter_spells : (when : Phase) (instance : Instance) → HasFilter program node instance.code
-      → Spells when (nodes.Filter instance)
+      → SpellsFires program when node (nodes.Filter instance)
   filter_spells when instance has = (
     fires when instance.code,
     ap (λ text. text_of when text (firing_text program.network when node (nodes.Filter instance)))

@@ -1,16 +1,19 @@
 -- The program of a plan's text ends as the stream equations say.
-use Rattle.std.specs.Prelude.{◌≡◌, ℕ, ◌<◌, ◌^◌, List, length}
+use Rattle.std.specs.Prelude.{◌≡◌, ℕ, ◌<◌, ◌^◌, List, length, Some, slice_get}
 use Rattle.strc_work_meaning.specs.Filters as filters
 use Rattle.strc_work_meaning.specs.Firing.{turn_limit}
+use Rattle.strc_elab_graph.specs.declared.graph.Node.{Node}
 use Rattle.strc_elab_graph.specs.Graphs.{Graph}
 use Rattle.strc_elab_stream.specs.Flattening.{tree_of}
 use Rattle.strc_sched_laws.specs.Planned.{IsFilterOf, AreKnown}
 use Rattle.strc_stage_plan.specs.Plans.{PlanParts, IsPlan, graph_of}
+use Rattle.strc_emit_moves.specs.declared.places.Phase.{Phase}
 use Rattle.strc_emit_runs.specs.Running.{Program, Running}
 use Rattle.strc_emit.specs.Emitting.{IsProgramOf}
 use Rattle.strc_emit_plans.specs.Programs.{KeepsSides}
 use Rattle.strc_emit_plans.specs.Firsts.{IsFirst}
 use Rattle.strc_emit_plans.specs.Answers.{HasInput, IsAnswerOf, whole_done}
+use Rattle.strc_emit_answers.specs.Fires.{SpellsFires}
 use Rattle.strc_emit_answers.specs.Spelled.{SpellsNodes}
 
 -- a graph's filters keep their sides
@@ -37,3 +40,13 @@ PlansAnswer =
     → HasInput plan.graph plan.schedule program rounds → IsFirst program first
     → IsAnswerOf (tree_of is.whole.stream) plan.schedule program rounds
     (whole_done plan.schedule program rounds first)
+
+-- the text of the function of each node of a plan's program spells one that does in each call what
+-- the program does in it
+abbrev pub PlansSpell : Type 0
+PlansSpell =
+    (plan : PlanParts) (text : List ℕ) (written : IsProgramOf plan text) (program : Program)
+    (when : Phase) (number : ℕ) (code : Node)
+    → IsPlan plan → AreKnown (graph_of plan) → IsTextProgram plan text written program
+    → slice_get program.network.nodes.now number ≡ Some code
+    → SpellsFires program when number code

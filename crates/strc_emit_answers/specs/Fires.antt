@@ -101,11 +101,14 @@ IsFired program node (nodes.Filter instance) = HasFilter program node instance.c
 IsFired program node code = IsPassing (node_view code)
 
 -- the text of a node's function spells one that does, call by call, what the program does
-abbrev pub FiresSpell : Type 0
-FiresSpell =
-    (program : Program) (when : Phase) (node : ℕ) (code : Node) → IsFired program node code
-    → (function : FireFunction)
+abbrev pub SpellsFires : Program → Phase → (node : ℕ) → Node → Type 0
+SpellsFires program when node code = (function : FireFunction)
     × (fires_text program.network when node code ≡ function_spelled program when node function)
     × ((from count : ℕ) (running : Running)
     → call_done program when node (Some (node_view code)) from count running
     ≡ function_done program when node function from count running)
+
+abbrev pub FiresSpell : Type 0
+FiresSpell =
+    (program : Program) (when : Phase) (node : ℕ) (code : Node) → IsFired program node code
+    → SpellsFires program when node code

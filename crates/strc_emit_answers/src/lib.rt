@@ -7,7 +7,7 @@
 #![tactic(auto)]
 
 ghost use Rattle.strc_emit_answers.specs.Given.{GivenGoesOn};
-ghost use Rattle.strc_emit_answers.specs.Answers.{PlansAnswer};
+ghost use Rattle.strc_emit_answers.specs.Answers.{PlansAnswer, PlansSpell};
 ghost use Rattle.strc_emit_answers.specs.Fires.{FiresSpell};
 ghost use Rattle.strc_emit_answers.specs.Orders.{OrdersSpell, OrderRow};
 ghost use Rattle.strc_emit_answers.specs.Spelled.{TextsSpell};
@@ -43,4 +43,10 @@ pub fn order_row()
 /// does in it.
 pub fn fires_spell()
     ensures { FiresSpell }
+{}
+
+/// The functions that a plan's text has for its nodes spell ones that do in each call what the
+/// program does in it.
+pub fn plans_spell()
+    ensures { PlansSpell }
 {}
