@@ -2,6 +2,7 @@
 use Rattle.std.proofs.Common.{◌≡◌, ℕ, zero, suc, ◌+◌, ◌-◌, Bool, true, false, List, [], ◌++◌}
 use Rattle.std.proofs.Common.{Option}
 use Rattle.std.proofs.Common.{Some, None, refl, sym, ap, ◌∙◌, is_some}
+use Rattle.std.specs.Fmt.{digits}
 use Rattle.std.specs.Prelude.{codes, decimal, if◌then◌else◌}
 use Rattle.std.specs.Option.{option_map}
 use Rattle.strc_lex_names.specs.Results.{result_and_then}
@@ -29,6 +30,7 @@ use Rattle.strc_emit_runs.specs.Works.{HasFilter}
 use Rattle.strc_emit_answers.specs.Fires.{Turn, Works, Passes, FireFunction}
 use Rattle.strc_emit_answers.specs.Fires.{first_spelled, turn_done, turns_done}
 use Rattle.strc_emit_answers.specs.Fires.{loop_done, function_done, FiresSpell, SpellsFires}
+use Rattle.strc_emit_answers.specs.Fires.{FireRow}
 use Rattle.strc_emit_answers.specs.Fires.{prework_called}
 use Rattle.strc_emit_answers.proofs.Orders.{then_same}
 
@@ -245,3 +247,7 @@ fires_spell program when node (nodes.Joiner weights) is =
 fires_spell program when node (nodes.Scatter fission) is = absurd is
 fires_spell program when node (nodes.Copy copied fission) is = absurd is
 fires_spell program when node (nodes.Gather fission) is = absurd is
+
+pub fire_row : FireRow
+unfolding digits
+fire_row program = refl

@@ -112,3 +112,11 @@ abbrev pub FiresSpell : Type 0
 FiresSpell =
     (program : Program) (when : Phase) (node : ℕ) (code : Node) → IsFired program node code
     → SpellsFires program when node code
+
+-- the function of node 3, which passes nothing on
+abbrev pub FireRow : Type 0
+FireRow =
+    (program : Program)
+    → function_spelled program phase.Round 3 (record { prework = None; turn = Passes [] })
+    ≡ codes "static void fire3(int32_t from, int32_t to) {\n"
+    ++ codes "    for (int32_t i = from; i < to; i++) {\n    }\n}\n"

@@ -8,7 +8,7 @@
 
 ghost use Rattle.strc_emit_answers.specs.Given.{GivenGoesOn};
 ghost use Rattle.strc_emit_answers.specs.Answers.{PlansAnswer, PlansSpell};
-ghost use Rattle.strc_emit_answers.specs.Fires.{FiresSpell};
+ghost use Rattle.strc_emit_answers.specs.Fires.{FiresSpell, FireRow};
 ghost use Rattle.strc_emit_answers.specs.Orders.{OrdersSpell, OrderRow};
 ghost use Rattle.strc_emit_answers.specs.Spelled.{TextsSpell};
 
@@ -49,4 +49,9 @@ pub fn fires_spell()
 /// program does in it.
 pub fn plans_spell()
     ensures { PlansSpell }
+{}
+
+/// The function of a node that passes nothing on.
+pub fn fire_row()
+    ensures { FireRow }
 {}
