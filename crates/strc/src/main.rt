@@ -11,12 +11,15 @@ use std::process::ExitCode;
 use std::sync::Wait;
 use std::thread::{Builder, Threads};
 use std::{env, thread};
+use strc_cli::answer::main_name;
 use strc_cli::execute::{CliError, Status};
 use strc_cli::explanation::{Explained, execute_explained};
 use strc_cli_input::device::Told;
 use strc_cli_words::line::{Command, Line, LineFault};
 use strc_cli_words::words::{VERSION, asks_for_help, asks_for_version, command, usage_error};
 use strc_lex::program_text::{TextFault, read_text};
+use strc_live::execute_live::execute_live;
+use strc_live::explanation::live_message;
 use strc_run_links::{Gate, OpenGate, StageTimes};
 use strc_stage_steps::Stage;
 
@@ -129,6 +132,9 @@ fn execute_text<T: Threads + Wait + Sync>(
     line: &Line,
     text: &[u8],
 ) -> u8 {
+    if line.live {
+        return status_of(rt, live_by(rt, name, line, text));
+    }
     if let Command::Run {
         workers,
         stats: true,
@@ -173,6 +179,17 @@ fn explained_by<G: Gate<Stage>, T: Threads + Wait + Sync>(
     );
     let _ = rt.stderr().write_all(&explained.message);
     explained
+}
+
+// Runs it over the input while it comes, and tells a person what is wrong with it.
+fn live_by(rt: &HostRuntime, name: &str, line: &Line, text: &[u8]) -> Result<Status, CliError> {
+    let mut input = Told::new(rt.stdin());
+    let mut output = Told::new(rt.stdout());
+    let report = execute_live(rt.alloc(), text, &line.command, &mut input, &mut output);
+    let main = main_name(&line.command);
+    let message = live_message(rt.alloc(), name, text, main, &report);
+    let _ = rt.stderr().write_all(&message);
+    report.result
 }
 
 // The exit status of a call, and what a person reads where it failed.

@@ -173,8 +173,8 @@ fn run_numbers<G: Gate<Stage>, R: Threads + Wait + Sync>(
     }
 }
 
-// How the command's text is to be compiled.
-fn options_of(alloc: Global, command: &Command) -> Result<Options, AllocError>
+/// How the command's text is to be compiled.
+pub fn options_of(alloc: Global, command: &Command) -> Result<Options, AllocError>
     ensures main { IfOk result (λ options. (choices.choice_of options).main
         ≡ (choice_of command.now).main) }
     ensures ways { IfOk result (λ options. (choices.choice_of options).ways

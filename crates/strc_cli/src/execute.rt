@@ -158,8 +158,8 @@ fn answer_status(answer: &Answer) -> Status
     }
 }
 
-// Writes all bytes, however few the output takes at a time.
-fn write_all<O: Sink>(output: &mut O, bytes: &[u8]) -> Result<(), CliError>
+/// Writes all bytes, however few the output takes at a time.
+pub fn write_all<O: Sink>(output: &mut O, bytes: &[u8]) -> Result<(), CliError>
     ensures { Writes bytes.now result (device_of (O.contents output.old) (O.has_failed output.old))
         (device_of (O.contents output.new) (O.has_failed output.new)) }
 {

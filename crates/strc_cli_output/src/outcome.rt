@@ -131,8 +131,8 @@ fn push_closed(text: &mut Vec<u8>, words: &[Word]) -> Result<(), AllocError>
     Ok(())
 }
 
-// Each word in decimal, and a line feed after those that end a line.
-fn push_words(text: &mut Vec<u8>, words: &[Word]) -> Result<(), AllocError>
+/// Each word in decimal, and a line feed after those that end a line.
+pub fn push_words(text: &mut Vec<u8>, words: &[Word]) -> Result<(), AllocError>
     ensures { OnOk result (text.new.items ≡ text.old.items ++ spec.words_text words.now) }
 {
     for word in words {
@@ -144,7 +144,8 @@ fn push_words(text: &mut Vec<u8>, words: &[Word]) -> Result<(), AllocError>
     Ok(())
 }
 
-fn leaves_line_open(words: &[Word]) -> bool
+/// Whether the last word leaves its line open.
+pub fn leaves_line_open(words: &[Word]) -> bool
     ensures { result ≡ spec.leaves_open words.now }
 {
     match words.last() {

@@ -248,8 +248,16 @@ plain_run = (
               text = is_text refl refl refl;
             })),
             (
-              takes_one _ refl refl (λ value passes. text_fits (is_text refl refl refl)),
-              (inr (inr refl), tt),
+              inr (inl (record {
+                action = refl;
+                range = refl;
+                missing = refl;
+                text = is_text refl refl refl;
+              })),
+              (
+                takes_one _ refl refl (λ value passes. text_fits (is_text refl refl refl)),
+                (inr (inr refl), tt),
+              ),
             ),
           ),
         ),
@@ -275,7 +283,14 @@ default_run = (
               is = refl;
               text = is_text refl refl refl;
             }),
-            (inl refl, (inl refl, tt)),
+            (
+              inr (record {
+                value = codes "false";
+                is = refl;
+                text = is_text refl refl refl;
+              }),
+              (inl refl, (inl refl, tt)),
+            ),
           ),
         ),
       ),

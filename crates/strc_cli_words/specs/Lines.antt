@@ -1,5 +1,5 @@
 -- What the words of a command line ask for. After the program's name they are
--- `run FILE [--rounds N] [--workers N] [--ways N] [--fuse N] [--stats] [--main NAME]`,
+-- `run FILE [--rounds N] [--workers N] [--ways N] [--fuse N] [--stats] [--live] [--main NAME]`,
 -- `check FILE [--main NAME]`, `plan FILE [--main NAME]`, `emit FILE [--main NAME]` or
 -- `graph FILE [--workers N] [--ways N] [--fuse N] [--main NAME]`, and are read as the crate `clap`
 -- reads the words of a command: `strc_app` describes ours.
@@ -32,7 +32,8 @@ main_of (command.Graph workers ways fuse main) = option_map string_bytes main
 -- without words the text comes from standard input, and five rounds are run by one worker, whose
 -- nodes aren't split and whose units aren't fused
 abbrev pub default_line : Line
-default_line = record { file = None; command = command.Run (Some 5) 1 1 0 false None }
+default_line =
+    record { file = None; command = command.Run (Some 5) 1 1 0 false None; live = false }
 
 -- FILE, which has to be given
 abbrev pub file_rule : Rule
@@ -75,6 +76,10 @@ abbrev pub stats_rule : Rule
 stats_rule =
     record (new_rule (codes "stats")) { long = Some (codes "stats"); action = Some SetTrue }
 
+-- `--live`
+abbrev pub live_rule : Rule
+live_rule = record (new_rule (codes "live")) { long = Some (codes "live"); action = Some SetTrue }
+
 -- `--main NAME`
 abbrev pub main_rule : Rule
 main_rule = record (new_rule (codes "main")) { long = Some (codes "main"); value_names = 1 }
@@ -89,7 +94,8 @@ rounds_app = with_rule (with_rule (new_app (codes "run")) file_rule) rounds_rule
 
 -- the words of `run`
 abbrev pub run_app : App
-run_app = with_rule (with_rule (with_sharing rounds_app) stats_rule) main_rule
+run_app =
+    with_rule (with_rule (with_rule (with_sharing rounds_app) stats_rule) live_rule) main_rule
 
 -- the words of `check`
 abbrev pub check_app : App
@@ -171,6 +177,7 @@ pub record IsLineOf (name : Text) (rows : List Row) (line : Line) : Type 0 where
   pub file : option_map string_bytes line.file ≡ first_of (codes "FILE") rows
   pub command : IsCommandOf name rows line.command
   pub main : main_of line.command ≡ first_of (codes "main") rows
+  pub live : IsFlagOf (one_of (codes "live") rows) line.live
 
 -- a subcommand was met, and the line has what was found for its arguments
 abbrev pub IsLineIn : Option (Text × List Row) → Line → Type 0

@@ -57,6 +57,8 @@ pub struct Line {
     /// The file of the program's text; without one it comes from standard input.
     pub file: Option<String>,
     pub command: Command,
+    /// Is a run to go on while its input comes?
+    pub live: bool,
 }
 
 /// Why a line of words was not understood.

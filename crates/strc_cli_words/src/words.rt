@@ -13,8 +13,8 @@ ghost use Rattle.strc_cli_words.specs.Lines.{IsNumberOf, check_app, default_line
 ghost use Rattle.strc_cli_words.specs.Lines.{file_rule, fuse_rule, graph_app, main_of, main_rule};
 ghost use Rattle.strc_cli_words.specs.Lines.{number_rule, plan_app, rounds_app, rounds_rule};
 ghost use Rattle.strc_cli_words.specs.Lines.{emit_app, run_app};
-ghost use Rattle.strc_cli_words.specs.Lines.{stats_rule, strc_app, ways_rule, with_sharing};
-ghost use Rattle.strc_cli_words.specs.Lines.{workers_rule};
+ghost use Rattle.strc_cli_words.specs.Lines.{live_rule, stats_rule, strc_app, ways_rule};
+ghost use Rattle.strc_cli_words.specs.Lines.{with_sharing, workers_rule};
 
 use crate::line::{Command, Line, LineFault};
 use clap::error::ErrorKind;
@@ -62,6 +62,7 @@ pub fn command<'a>(alloc: Global, words: &'a [&'a str]) -> Result<Line, LineFaul
                 stats: false,
                 main: None,
             },
+            live: false,
         });
     }
     let Ok(parser) = parser(alloc) else {
@@ -134,7 +135,8 @@ fn with_last<T: Drop>(
     Ok(items)
 }
 
-// The words `run FILE [--rounds N] [--workers N] [--ways N] [--fuse N] [--stats] [--main NAME]`.
+// The words `run FILE [--rounds N] [--workers N] [--ways N] [--fuse N] [--stats] [--live]
+// [--main NAME]`.
 fn run_command<'a>(alloc: Global) -> Result<clap::Command<'a>, AllocError>
     ensures app { IfOk result (λ run. app_of run ≡ run_app) }
     ensures local { IfOk result (λ run. (fields_of run).has_globals ≡ false) }
@@ -142,6 +144,7 @@ fn run_command<'a>(alloc: Global) -> Result<clap::Command<'a>, AllocError>
     let rounds = rounds_command(alloc)?;
     with_sharing_options(alloc, rounds)?
         .arg(stats_option(alloc))?
+        .arg(live_option(alloc))?
         .arg(main_option(alloc))
 }
 
@@ -282,6 +285,16 @@ fn stats_option<'a>(alloc: Global) -> Arg<'a>
         .help("Write the steps and the time of each stage to standard error")
 }
 
+fn live_option<'a>(alloc: Global) -> Arg<'a>
+    ensures rule { rule_of result ≡ live_rule }
+    ensures local { result.global ≡ false }
+{
+    Arg::new(alloc, "live")
+        .long("live")
+        .action(ArgAction::SetTrue)
+        .help("Run each round, and write its words, as soon as its input has come")
+}
+
 fn number_option<'a>(alloc: Global, name: &'a str) -> Arg<'a>
     ensures rule { rule_of result ≡ number_rule name.entry.now }
     ensures local { result.global ≡ false }
@@ -320,6 +333,7 @@ fn line_of(alloc: Global, matches: &ArgMatches) -> Result<Line, LineFault>
         Ok(command) => Ok(Line {
             file: Some(file),
             command,
+            live: is_set(found, "live"),
         }),
         Err(fault) => Err(fault),
     }

@@ -28,5 +28,6 @@ returns-in-Ok-clause-answered c =
         command = c.in-Ok.ensures.answered.0;
         main = c.in-Ok.ensures.answered.1 ∙ (c.in_ok-main.ensures.same
             ∙ (c.get_str-2.ensures ∙ first_value-rows found (codes "main")));
+        live = c.is_set.ensures;
       },
     )
