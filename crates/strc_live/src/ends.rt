@@ -40,38 +40,65 @@ pub(crate) fn tell_end<O: Sink>(
     end: LiveEnd,
     output: &mut O,
 ) -> Result<(Status, LiveEnd), CliError> {
-    if let LiveEnd::Done = end {
-        return Ok((Status::Done, end));
-    }
-    if leaves_open {
-        write_all(output, b"\n")?;
-    }
     match end {
         LiveEnd::Done => Ok((Status::Done, LiveEnd::Done)),
-        LiveEnd::Faulted(site) => {
-            let Ok(text) = fault_text(alloc, plan, site) else {
-                write_all(output, b"refused S3 NoMemory\n")?;
-                return Ok((Status::NoMemory, LiveEnd::no_memory()));
-            };
-            write_all(output, &text)?;
-            Ok((Status::Fault, LiveEnd::Faulted(site)))
-        }
-        LiveEnd::Stopped(stop) => {
-            let answer = Answer::Stopped(stop);
-            let status = tell(alloc, &answer, output)?;
-            match answer {
-                Answer::Stopped(stop) => Ok((status, LiveEnd::Stopped(stop))),
-                _ => Ok((status, LiveEnd::Done)),
-            }
-        }
+        LiveEnd::Faulted(site) => tell_fault(alloc, plan, leaves_open, site, output),
+        LiveEnd::Stopped(stop) => tell_stop(alloc, leaves_open, stop, output),
         LiveEnd::SeveralTapes => {
-            write_all(output, b"refused S8 SeveralTapes\n")?;
+            tell_line(leaves_open, b"refused S8 SeveralTapes\n", output)?;
             Ok((Status::Refused, LiveEnd::SeveralTapes))
         }
         LiveEnd::RoundsGiven => {
-            write_all(output, b"refused S9 RoundsGiven\n")?;
+            tell_line(leaves_open, b"refused S9 RoundsGiven\n", output)?;
             Ok((Status::Refused, LiveEnd::RoundsGiven))
         }
+    }
+}
+
+// Writes a line, before it a line feed where the words leave their line open.
+fn tell_line<O: Sink>(leaves_open: bool, line: &[u8], output: &mut O) -> Result<(), CliError> {
+    if leaves_open {
+        write_all(output, b"\n")?;
+    }
+    write_all(output, line)
+}
+
+// Writes the line of a fault.
+fn tell_fault<O: Sink>(
+    alloc: Global,
+    plan: &Plan,
+    leaves_open: bool,
+    site: FaultSite,
+    output: &mut O,
+) -> Result<(Status, LiveEnd), CliError> {
+    let Ok(text) = fault_text(alloc, plan, site) else {
+        tell_line(leaves_open, b"refused S3 NoMemory\n", output)?;
+        return Ok((Status::NoMemory, LiveEnd::no_memory()));
+    };
+    tell_line(leaves_open, &text, output)?;
+    Ok((Status::Fault, LiveEnd::Faulted(site)))
+}
+
+// Writes the line of a refusal.
+fn tell_stop<O: Sink>(
+    alloc: Global,
+    leaves_open: bool,
+    stop: Stop,
+    output: &mut O,
+) -> Result<(Status, LiveEnd), CliError> {
+    let answer = Answer::Stopped(stop);
+    if leaves_open {
+        write_all(output, b"\n")?;
+    }
+    let status = tell(alloc, &answer, output)?;
+    Ok((status, end_of(answer)))
+}
+
+/// The end of a run whose answer is a refusal.
+pub(crate) fn end_of(answer: Answer) -> LiveEnd {
+    match answer {
+        Answer::Stopped(stop) => LiveEnd::Stopped(stop),
+        _ => LiveEnd::Done,
     }
 }
 

@@ -1,6 +1,9 @@
 // A live run of a text over an input that comes while it runs.
 
-use crate::ends::{LiveEnd, tell_end};
+ghost use Rattle.std.specs.Prelude.{◌≡◌, true, None};
+ghost use Rattle.strc_run.specs.Rounds.{plan_reads};
+
+use crate::ends::{LiveEnd, end_of, tell_end};
 use crate::feeding::{Tape, run_live};
 use std::alloc::Global;
 use strc_cli::answer::{Answer, options_of};
@@ -70,20 +73,18 @@ fn report(told: Result<(Status, LiveEnd), CliError>, plan: Plan) -> LiveReport {
 fn refused<O: Sink>(alloc: Global, placed: PlacedRefusal, output: &mut O) -> LiveReport {
     let answer = Answer::Stopped(Stop::Refused(placed));
     let result = tell(alloc, &answer, output);
-    let end = match answer {
-        Answer::Stopped(stop) => LiveEnd::Stopped(stop),
-        _ => LiveEnd::Done,
-    };
     LiveReport {
         result,
-        end,
+        end: end_of(answer),
         plan: None,
     }
 }
 
 // Why a plan can't be run live, where it can't: other than one worker are asked for, or a number of
 // rounds, or its graph doesn't read the input, or it has several tapes.
-fn unfit(alloc: Global, plan: &Plan, command: &Command) -> Option<LiveEnd> {
+fn unfit(alloc: Global, plan: &Plan, command: &Command) -> Option<LiveEnd>
+    ensures { result ≡ None → plan_reads plan.now ≡ true }
+{
     if let Command::Run {
         rounds,
         workers,

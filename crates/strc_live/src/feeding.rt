@@ -1,5 +1,9 @@
 // A live run that is fed from the input.
 
+ghost use Rattle.std.specs.Prelude.{◌≡◌, true};
+ghost use Rattle.strc_run.specs.Rounds.{plan_reads};
+ghost use Rattle.strc_live_feeds.specs.Feeding.{IsFeeding};
+
 use crate::ends::LiveEnd;
 use std::alloc::Global;
 use strc_cli::execute::{CliError, write_all};
@@ -48,13 +52,16 @@ impl Tape {
 
 /// Runs a plan that reads the program's input, over the input while it comes: each round as soon as
 /// its items are there, and its words are written before more is read.
+#[tactic(auto, using(crate::proofs::Begun::begun_feeds))]
 pub(crate) fn run_live<I: Source, O: Sink>(
     alloc: Global,
     plan: &Plan,
     tape: &mut Tape,
     input: &mut I,
     output: &mut O,
-) -> Result<LiveEnd, CliError> {
+) -> Result<LiveEnd, CliError>
+    requires reads { plan_reads plan.now ≡ true }
+{
     match begin(alloc, plan, input) {
         Begun::Goes(feed) => {
             if !tape.write(feed.words(), output)? {
@@ -90,9 +97,11 @@ fn run_rounds<I: Source, O: Sink>(
     tape: &mut Tape,
     input: &mut I,
     output: &mut O,
-) -> Result<LiveEnd, CliError> {
+) -> Result<LiveEnd, CliError>
+    requires feeding { IsFeeding (I.remaining input.old) feed }
+{
     let mut feed = feed;
-    while feed.done() < u32::MAX {
+    for _round in 0..u32::MAX {
         match feed.advance(input) {
             Fed::Round => {
                 if !tape.write(feed.words(), output)? {
