@@ -19,11 +19,11 @@ pub record HasRead (first left : Option (List ℕ)) (reading : Reading) : Type 0
   pub consumed : Consumes first left taken
   pub read : bytes_read unread taken ≡ reading
 
-consumes_none : (bytes : Option (List ℕ)) → Consumes bytes bytes []
+pub consumes_none : (bytes : Option (List ℕ)) → Consumes bytes bytes []
 consumes_none None = tt
 consumes_none (Some bytes) = refl
 
-consumes_more : (first middle last : Option (List ℕ)) (one two : List ℕ)
+pub consumes_more : (first middle last : Option (List ℕ)) (one two : List ℕ)
     → Consumes first middle one → Consumes middle last two → Consumes first last (one ++ two)
 consumes_more None middle last one two h k = tt
 consumes_more (Some bytes) None last one two h k = absurd h

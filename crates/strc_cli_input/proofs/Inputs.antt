@@ -27,24 +27,24 @@ append_none : {A : Type 0} (l : List A) → l ++ [] ≡ l
 append_none [] = refl
 append_none (first ∷ rest) = ap (λ l. first ∷ l) (append_none rest)
 
-append_more : {A : Type 0} (l : List A) (x : A) (more : List A) → (l ++ x ∷ []) ++ more ≡ l ++ x ∷
-    more
+pub append_more : {A : Type 0} (l : List A) (x : A) (more : List A)
+    → (l ++ x ∷ []) ++ more ≡ l ++ x ∷ more
 append_more [] x more = refl
 append_more (first ∷ rest) x more = ap (λ l. first ∷ l) (append_more rest x more)
 
-one_longer : {A : Type 0} (l : List A) (x : A) → length (l ++ x ∷ []) ≡ suc (length l)
+pub one_longer : {A : Type 0} (l : List A) (x : A) → length (l ++ x ∷ []) ≡ suc (length l)
 one_longer [] x = refl
 one_longer (first ∷ rest) x = ap suc (one_longer rest x)
 
-either : (b : Bool) → (b ≡ true) ⊎ (b ≡ false)
+pub either : (b : Bool) → (b ≡ true) ⊎ (b ≡ false)
 either true = inl refl
 either false = inr refl
 
 -- no white space
-abbrev IsDark : ℕ → Type 0
+abbrev pub IsDark : ℕ → Type 0
 IsDark byte = is_ascii_whitespace byte ≡ false
 
-abbrev AreDark : List ℕ → Type 0
+abbrev pub AreDark : List ℕ → Type 0
 AreDark [] = Unit {0}
 AreDark (first ∷ rest) = IsDark first × AreDark rest
 
@@ -55,7 +55,7 @@ split_dark (first ∷ rest) dark =
     slice_split-cons_no is_ascii_whitespace first rest dark.0
     ∙ ap (onto_first first) (split_dark rest dark.1)
 
-split_at : (bytes : List ℕ) (byte : ℕ) (rest : List ℕ) → AreDark bytes
+pub split_at : (bytes : List ℕ) (byte : ℕ) (rest : List ℕ) → AreDark bytes
     → is_ascii_whitespace byte ≡ true → slice_split is_ascii_whitespace (bytes ++ byte ∷ rest)
     ≡ bytes ∷ slice_split is_ascii_whitespace rest
 split_at [] byte rest dark space = slice_split-cons_yes is_ascii_whitespace byte rest space
@@ -63,7 +63,8 @@ split_at (first ∷ more) byte rest dark space =
     slice_split-cons_no is_ascii_whitespace first (more ++ byte ∷ rest) dark.0
     ∙ ap (onto_first first) (split_at more byte rest dark.1 space)
 
-darker : (bytes : List ℕ) (byte : ℕ) → AreDark bytes → IsDark byte → AreDark (bytes ++ byte ∷ [])
+pub darker : (bytes : List ℕ) (byte : ℕ) → AreDark bytes → IsDark byte
+    → AreDark (bytes ++ byte ∷ [])
 darker [] byte dark is = (is, tt)
 darker (first ∷ rest) byte dark is = (dark.0, darker rest byte dark.1 is)
 
@@ -80,13 +81,13 @@ reported_added numbers None = refl
 reported_added numbers (Some value) = refl
 
 -- a byte of a word, and white space
-byte_on : (numbers : List ℤ) (last : Option Word) (byte : ℕ) → IsDark byte
+pub byte_on : (numbers : List ℤ) (last : Option Word) (byte : ℕ) → IsDark byte
     → byte_read (goes_on numbers last) byte ≡ goes_on numbers (on_word last (byte ∷ []))
 byte_on numbers None byte dark = refl
 byte_on numbers (Some last) byte dark =
     ap (λ b. cond b (word_ended numbers last) (goes_on numbers (with_byte last byte))) dark
 
-byte_ends : (numbers : List ℤ) (last : Option Word) (byte : ℕ) → is_ascii_whitespace byte ≡ true
+pub byte_ends : (numbers : List ℤ) (last : Option Word) (byte : ℕ) → is_ascii_whitespace byte ≡ true
     → byte_read (goes_on numbers last) byte ≡ ends numbers last
 byte_ends numbers None byte space = refl
 byte_ends numbers (Some last) byte space =

@@ -2,3 +2,4 @@ pub mod Numbers
 pub mod Reading
 pub mod ReadAnswers
 pub mod ReadInput
+pub mod NumberReading

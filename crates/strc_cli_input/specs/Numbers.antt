@@ -61,3 +61,24 @@ ints_from number (word ∷ rest) = put_first (int_of word) number (ints_from (su
 -- the numbers of the input, or the number of its first word that writes none
 abbrev pub ints : List ℕ → Result (List ℤ) ℕ
 ints bytes = ints_from 0 (words bytes)
+
+-- the numbers of words before the first that writes none
+abbrev pub put_given : Option ℤ → List ℤ → List ℤ
+put_given None rest = []
+put_given (Some value) rest = value ∷ rest
+
+abbrev pub given_of : List (List ℕ) → List ℤ
+given_of [] = []
+given_of (word ∷ rest) = put_given (int_of word) (given_of rest)
+
+-- those of the input
+abbrev pub given : List ℕ → List ℤ
+given bytes = given_of (words bytes)
+
+abbrev pub error_of : Result (List ℤ) ℕ → Option ℕ
+error_of (Ok numbers) = None
+error_of (Err number) = Some number
+
+-- the number of its first word that writes none, where there is one
+abbrev pub wrong_word : List ℕ → Option ℕ
+wrong_word bytes = error_of (ints bytes)

@@ -1,9 +1,10 @@
 -- The input as far as it has been read, byte by byte.
 use Rattle.std.specs.Prelude.{◌≡◌, ℕ, ◌+◌, ◌*◌, ℤ, Bool, true, false, nat_eq, nat_lt, List, []}
 use Rattle.std.specs.Prelude.{◌∷◌, ◌++◌, length, Option, Some, None, Result, Ok, Err}
-use Rattle.std.specs.Prelude.{if◌then◌else◌}
+use Rattle.std.specs.Prelude.{if◌then◌else◌, codes, neg_ℤ, pos}
 use Rattle.std.specs.Char.{is_ascii_whitespace, is_digit, digit_value}
-use Rattle.strc_cli_input.specs.Numbers.{most, signed, minus, ints}
+use Rattle.strc_cli_input.specs.Numbers.{most, signed, minus, ints, given}
+use Rattle.strc_cli_input.specs.Numbers.{wrong_word}
 use Rattle.strc_cli_input.specs.declared.numbers.Word.{Word}
 use Rattle.strc_cli_input.specs.declared.numbers.Word.TheVariants as word
 
@@ -75,3 +76,25 @@ FailsForGood = (first rest : List ℕ) (number : ℕ) → bytes_read unread firs
 abbrev pub ReadsInPieces : Type 0
 ReadsInPieces = (reading : Reading) (first rest : List ℕ)
     → bytes_read reading (first ++ rest) ≡ bytes_read (bytes_read reading first) rest
+
+-- the numbers of all bytes begin with these
+pub record Begins (numbers all : List ℤ) : Type 0 where
+  pub later : List ℤ
+  pub is : all ≡ numbers ++ later
+
+-- the numbers that were read are the first of those that the input gives, whatever comes next
+abbrev pub GivenBeginsSo : Type 0
+GivenBeginsSo = (bytes more : List ℕ) (numbers : List ℤ) (last : Word)
+    → bytes_read unread bytes ≡ Reads numbers last → Begins numbers (given (bytes ++ more))
+
+-- an input without a wrong word gives all of its numbers, and each one as many as are before the
+-- first wrong word
+abbrev pub GivenIsSo : Type 0
+GivenIsSo = (bytes : List ℕ)
+    → ((numbers : List ℤ) → ints bytes ≡ Ok numbers → given bytes ≡ numbers)
+    × ((number : ℕ) → ints bytes ≡ Err number → length (given bytes) ≡ number)
+
+-- Of `5 -6 x 7` the first two words write numbers, and word 2 writes none.
+pub record GivenRow : Type 0 where
+  pub numbers : given (codes "5 -6 x 7") ≡ pos 5 ∷ neg_ℤ (pos 6) ∷ []
+  pub wrong : wrong_word (codes "5 -6 x 7") ≡ Some 2

@@ -8,4 +8,5 @@
 pub mod device;
 pub mod input;
 pub mod input_laws;
+pub mod number_reader;
 pub mod numbers;

@@ -127,7 +127,7 @@ impl Numbers {
 }
 
 /// A word with one byte more, which is no white space; none where it can't be a number any more.
-fn with_byte(last: Word, byte: u8) -> Option<Word>
+pub(crate) fn with_byte(last: Word, byte: u8) -> Option<Word>
     ensures { result ≡ spec.with_byte last byte }
 {
     match last {
@@ -167,7 +167,7 @@ fn most(negative: bool) -> u64
 }
 
 /// The number after a sign, where it has 32 bits.
-fn signed(negative: bool, value: u32) -> Option<i32>
+pub(crate) fn signed(negative: bool, value: u32) -> Option<i32>
     ensures { result ≡ (if nat_lt (numbers.most negative) value then None
         else Some (numbers.signed negative value)) }
 {

@@ -1,0 +1,9 @@
+pub mod Choices
+pub mod Grouped
+pub mod Grouping
+pub mod Joined
+pub mod Made
+pub mod Parting
+pub mod Repeating
+pub mod Sizing
+pub mod UnitGroups
