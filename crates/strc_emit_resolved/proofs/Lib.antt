@@ -5,3 +5,4 @@ pub mod Members
 pub mod Sides
 pub mod Relinked
 pub mod Programs
+pub mod Elaborated

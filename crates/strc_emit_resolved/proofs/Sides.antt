@@ -46,6 +46,7 @@ same_is kind.Pop kind.Peek e = absurd (cc)
 same_is kind.Peek kind.Push e = absurd (cc)
 same_is kind.Peek kind.Pop e = absurd (cc)
 
+-- a number above 0
 above : (n : ℕ) → int_lt (pos 0) (pos (suc n)) ≡ true
 above n = grind (arith, ints)
 

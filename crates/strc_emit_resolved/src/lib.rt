@@ -3,10 +3,13 @@
 // no code: what premises of the laws on emitted plans the rules give.
 // A caller relies on `resolved_plans_answer`: the text spells a program, and this ends with the
 // answer of the stream equations.
-// Stands on strc_emit_answers, whose laws these are premises of, and on strc_work_rules.
+// Stands on strc_emit_answers, whose laws these are premises of, on strc_work_rules, and on
+// strc_elab, whose instances of filters are resolved.
 #![tactic(auto)]
 
-ghost use Rattle.strc_emit_resolved.specs.Resolved.{ResolvedKeepSides, ResolvedCallsFit, ResolvedRow};
+ghost use Rattle.strc_emit_resolved.specs.Resolved.{ResolvedKeepSides, ResolvedCallsFit};
+ghost use Rattle.strc_emit_resolved.specs.Resolved.{ResolvedRow};
+ghost use Rattle.strc_emit_resolved.specs.Elaborated.{InstancesAreResolved};
 ghost use Rattle.strc_emit_resolved.specs.Programs.{TextsHavePrograms, ResolvedPlansAnswer};
 
 /// A resolved filter looks at items, and gives some, only on sides that have items.
@@ -33,4 +36,10 @@ pub fn resolved_plans_answer()
 /// A filter that passes items on is resolved where it takes some.
 pub fn resolved_row()
     ensures { ResolvedRow }
+{}
+
+/// The filters of a plan of an elaborated stream are resolved, where their slots are numbered within
+/// an int.
+pub fn instances_are_resolved()
+    ensures { InstancesAreResolved }
 {}
