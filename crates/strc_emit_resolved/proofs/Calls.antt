@@ -53,7 +53,8 @@ module _ (known : List ℕ → ℕ → Bool) where
       then_gives (IsKnown known) IsKnownTyped (expect_type kind typed)
       (λ e. Ok (record { kind = outer; value = whole e })) (as_known kind typed h) more
 
-  constant_known : (name : List ℕ) (value : Option ℤ) → Gives IsKnownTyped (constant_read name value)
+  constant_known : (name : List ℕ) (value : Option ℤ)
+      → Gives IsKnownTyped (constant_read name value)
   constant_known name None = tt
   constant_known name (Some value) = tt
 

@@ -32,6 +32,7 @@ use Rattle.strc_emit_resolved.proofs.Sides.{resolved_keep_sides}
 abbrev FitsFilter : Filter → Type 0
 FitsFilter filter = CallsFit filter.members × (slot_count filter < 2 ^ 31)
 
+-- so it is in a node that is a filter
 abbrev FitsNode : Option Node → Type 0
 FitsNode (Some (nodes.Filter instance)) = FitsFilter (filter_of instance.code)
 FitsNode _ = Unit {0}

@@ -19,7 +19,8 @@ use Rattle.strc_work_meaning.specs.Filters.{Filter, body_rates, work_rates, prew
 use Rattle.strc_work_meaning.specs.Filters.{rate_number, same_kind, item_count, window_size}
 use Rattle.strc_work_meaning.specs.Filters.{has_rate, peek_rate, pop_rate}
 use Rattle.strc_work_meaning.specs.Typing.{TypedNames, names_after_fields}
-use Rattle.strc_work_rules.specs.Resolution.{Work, where_kept, number_resolved, rate_fits, rate_resolved}
+use Rattle.strc_work_rules.specs.Resolution.{Work, where_kept, number_resolved, rate_fits}
+use Rattle.strc_work_rules.specs.Resolution.{rate_resolved}
 use Rattle.strc_work_rules.specs.Resolution.{rates_resolved, carries_items, side_of}
 use Rattle.strc_work_rules.specs.Resolution.{start_context, helper_context, body_context}
 use Rattle.strc_work_rules.specs.Resolution.{type_resolved, fields_resolved, fields_after}

@@ -23,7 +23,7 @@ pub record AreResolved (graph : Graph) : Type 0 where
 
 -- what a program is run with: the numbers of its input, what unset locals hold, how often its loops
 -- may turn, and what stands for the functions of nodes that have none
-pub record Setting : Type 0 where
+pub record RunSetting : Type 0 where
   pub input : List ℤ
   pub unset : Unset
   pub fuel : ℕ
@@ -31,7 +31,7 @@ pub record Setting : Type 0 where
   pub enough : turn_limit < fuel
 
 -- a program is that of a plan's text, in this setting
-pub record SpellsProgram (plan : PlanParts) (text : List ℕ) (setting : Setting)
+pub record SpellsProgram (plan : PlanParts) (text : List ℕ) (setting : RunSetting)
     (program : Program) : Type 0 where
   pub written : IsProgramOf plan text
   pub is : IsTextProgram plan text written program
@@ -42,7 +42,7 @@ pub record SpellsProgram (plan : PlanParts) (text : List ℕ) (setting : Setting
 -- the text of a plan of resolved filters spells a program, in any setting
 abbrev pub TextsHavePrograms : Type 0
 TextsHavePrograms =
-    (plan : PlanParts) (text : List ℕ) (setting : Setting)
+    (plan : PlanParts) (text : List ℕ) (setting : RunSetting)
     → IsProgramOf plan text → AreResolved (graph_of plan)
     → (program : Program) × SpellsProgram plan text setting program
 
@@ -50,7 +50,7 @@ TextsHavePrograms =
 -- rounds
 abbrev pub ResolvedPlansAnswer : Type 0
 ResolvedPlansAnswer =
-    (plan : PlanParts) (text : List ℕ) (setting : Setting)
+    (plan : PlanParts) (text : List ℕ) (setting : RunSetting)
     → (is : IsPlan plan) → IsProgramOf plan text → AreResolved (graph_of plan)
     → (program : Program) × SpellsProgram plan text setting program
     × ((rounds : ℕ) (first : Running) → rounds < 2 ^ 32
