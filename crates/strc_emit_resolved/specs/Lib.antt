@@ -1,0 +1,3 @@
+pub mod Resolved
+pub mod Programs
+pub mod Elaborated
