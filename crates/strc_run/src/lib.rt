@@ -6,7 +6,8 @@
 // Stands on strc_lex, strc_parse, strc_elab, strc_elab_flattening, strc_rate, strc_balance,
 // strc_startup, strc_sched_orders, strc_fiss and strc_fuse, whose rules a text keeps, on
 // strc_run_refusal, whose refusals and outcomes it gives and passes on, on strc_stage_plan, whose
-// plans it gives, and on strc_sched and strc_run_workers, which run schedules and stages.
+// plans it gives, on strc_sched and strc_run_workers, which run schedules and stages, and on
+// strc_batch and strc_run_batches, which run rounds by batches.
 #![tactic(auto)]
 
 pub mod compile;
@@ -14,6 +15,8 @@ pub mod laws;
 pub mod options;
 mod rates;
 pub mod run;
+pub mod sharing;
+mod single_run;
 mod transformations;
 
 pub use strc_run_links::{Gate, OpenGate, Rx, Tx, Worked, close, link, work};

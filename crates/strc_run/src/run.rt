@@ -5,11 +5,12 @@ ghost use Rattle.strc_stage.specs.Answers.{AnswersPlan};
 ghost use Rattle.strc_stage_steps.specs.Plans.{need_of};
 ghost use Rattle.strc_run.specs.Rounds.{AreWorkers, IsRunOf, IsWorkedRefusal, plan_reads};
 
+use crate::sharing::{Batching, Sharing};
+use crate::single_run::run_single;
 use std::alloc::Global;
 use std::sync::Wait;
 use std::thread::Threads;
 use strc_run_links::Gate;
-use strc_run_workers::alone::run_alone;
 use strc_run_workers::stage_rounds::run_stages;
 use strc_sched::plain::input_needed;
 use strc_sched::served_rounds;
@@ -45,12 +46,33 @@ pub fn run<G: Gate<Stage>, R: Threads + Wait + Sync>(
 ) -> Result<Outcome, RunRefusal>
     ensures { IsRunOf plan.now input.now rounds workers result }
 {
+    let sharing = Sharing {
+        workers,
+        batching: Batching::One,
+    };
+    run_shared(rt, alloc, plan, input, rounds, sharing, gate)
+}
+
+/// The same, by so many workers and so many rounds at a time. However rounds are shared, the
+/// outcome is the same; a fault under batches is found by the run anew, one by one.
+pub fn run_shared<G: Gate<Stage>, R: Threads + Wait + Sync>(
+    rt: &R,
+    alloc: Global,
+    plan: &Plan,
+    input: &[i32],
+    rounds: Option<u32>,
+    sharing: Sharing,
+    gate: &G,
+) -> Result<Outcome, RunRefusal>
+    ensures { IsRunOf plan.now input.now rounds sharing.workers result }
+{
+    let workers = sharing.workers;
     if workers == 0 || workers > WORKER_LIMIT {
         return Err(RunRefusal::BadWorkers);
     }
     match rounds {
-        Some(count) => run_rounds(rt, alloc, plan, input, count, workers, gate),
-        None => run_served(rt, alloc, plan, input, workers, gate),
+        Some(count) => run_rounds(rt, alloc, plan, input, count, sharing, gate),
+        None => run_served(rt, alloc, plan, input, sharing, gate),
     }
 }
 
@@ -60,18 +82,18 @@ fn run_served<G: Gate<Stage>, R: Threads + Wait + Sync>(
     alloc: Global,
     plan: &Plan,
     input: &[i32],
-    workers: u32,
+    sharing: Sharing,
     gate: &G,
 ) -> Result<Outcome, RunRefusal>
-    requires workers { AreWorkers workers }
-    ensures { IsRunOf plan.now input.now None workers result }
+    requires workers { AreWorkers sharing.workers }
+    ensures { IsRunOf plan.now input.now None sharing.workers result }
 {
     if !reads_input(plan) {
         return Err(RunRefusal::RoundsNeeded);
     }
     // An input that doesn't serve start-up is refused as one that doesn't serve 0 rounds.
     let served = rounds_served(plan.graph(), plan.schedule(), input.len() as u64);
-    run_rounds(rt, alloc, plan, input, served.unwrap_or(0), workers, gate)
+    run_rounds(rt, alloc, plan, input, served.unwrap_or(0), sharing, gate)
 }
 
 /// So many rounds: on one thread where there is nothing to divide among workers, else by stages.
@@ -81,13 +103,13 @@ fn run_rounds<G: Gate<Stage>, R: Threads + Wait + Sync>(
     plan: &Plan,
     input: &[i32],
     rounds: u32,
-    workers: u32,
+    sharing: Sharing,
     gate: &G,
 ) -> Result<Outcome, RunRefusal>
-    requires workers { AreWorkers workers }
+    requires workers { AreWorkers sharing.workers }
     ensures answer { IfOk result (AnswersPlan plan.now input.now rounds) }
     ensures enough { IfOk result (λ _. need_of plan.now rounds ≤ length input.now) }
-    ensures refused { IfErr result (IsWorkedRefusal plan.now input.now rounds workers) }
+    ensures refused { IfErr result (IsWorkedRefusal plan.now input.now rounds sharing.workers) }
 {
     let graph = plan.graph();
     let need = input_needed(graph, plan.schedule(), rounds);
@@ -95,10 +117,10 @@ fn run_rounds<G: Gate<Stage>, R: Threads + Wait + Sync>(
     if got < need {
         return Err(RunRefusal::InputShort { need, got });
     }
-    if workers == 1 || rounds == 0 || graph.nodes().is_empty() {
-        return run_alone(alloc, plan, input, rounds);
+    if sharing.workers == 1 || rounds == 0 || graph.nodes().is_empty() {
+        return run_single(alloc, plan, input, rounds, sharing.batching);
     }
-    run_stages(rt, alloc, plan, input, rounds, workers, gate)
+    run_stages(rt, alloc, plan, input, rounds, sharing.workers, gate)
 }
 
 /// Whether a node of the plan's graph reads the program's input.
