@@ -172,15 +172,16 @@ texts_have_programs plan text setting written resolved =
     by_shown : NodesShown written.network setting.others (length written.network.nodes.now)
         written.written.0
         → (program : Program) × SpellsProgram plan text setting program
-    by_shown shown = (
-      record {
+        × (program.network ≡ written.network)
+    by_shown shown = record {
+      0 = record {
         network = written.network;
         functions = shown.functions;
         input = setting.input;
         unset = setting.unset;
         fuel = setting.fuel;
-      },
-      record {
+      };
+      1 = record {
         written = record written {
           written = record {
             0 = written.written.0;
@@ -196,8 +197,9 @@ texts_have_programs plan text setting written resolved =
         input = refl;
         unset = refl;
         fuel = refl;
-      },
-    )
+      };
+      2 = refl;
+    }
 
 pub resolved_plans_answer : ResolvedPlansAnswer
 resolved_plans_answer plan text setting is written resolved =

@@ -39,12 +39,14 @@ pub record SpellsProgram (plan : PlanParts) (text : List ℕ) (setting : RunSett
   pub unset : program.unset ≡ setting.unset
   pub fuel : program.fuel ≡ setting.fuel
 
--- the text of a plan of resolved filters spells a program, in any setting
+-- the text of a plan of resolved filters spells a program, with the network that the text is of, in
+-- any setting
 abbrev pub TextsHavePrograms : Type 0
 TextsHavePrograms =
     (plan : PlanParts) (text : List ℕ) (setting : RunSetting)
-    → IsProgramOf plan text → AreResolved (graph_of plan)
+    (written : IsProgramOf plan text) → AreResolved (graph_of plan)
     → (program : Program) × SpellsProgram plan text setting program
+    × (program.network ≡ written.network)
 
 -- and from its first cells on this ends with the answer of the plan's stream, after any number of
 -- rounds
