@@ -17,8 +17,9 @@ gate: ## proves and tests everything, and the documents (some 260 processor minu
 	rt ci && ./strc --keep && scripts/refuse-memory --cases && \
 	scripts/native-cases --plain --programs 300 && exit $$((documents + unused))
 
-test: build ## the examples, and what a shell can do to a run
+test: build ## the examples, live runs, and what a shell can do to a run
 	scripts/examples
+	scripts/live-runs
 	scripts/interrupt-runs
 
 bench: prove ## times beside Lua, CPython and C, and by workers, into bench/README.md
