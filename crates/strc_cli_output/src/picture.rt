@@ -16,11 +16,11 @@ use strc_elab_graph::graph::Graph;
 use strc_elab_stream::stream::Stream;
 use strc_sched_orders::unit::Unit;
 
-/// A picture of a stream's flat graph as Graphviz reads it (`dot -Tsvg`): a box with the
-/// number and the name of each node, how often it fires in a round and, where it does, before the
-/// first one, and, where there are several tapes, the number of its tape; a line for each channel, with what a firing of `work` pushes and pops at its ends, the size of its buffer,
-/// and how many items are enqueued on it. Split-joins and feedback loops are in boxes. Each
-/// channel has a size.
+/// A picture of a stream's flat graph as Graphviz reads it (`dot -Tsvg`): a box with the number and
+/// the name of each node, how often it fires in a round and, where it does, before the first one,
+/// and, where there are several tapes, the number of its tape; a line for each channel, with what a
+/// firing of `work` pushes and pops at its ends, the size of its buffer, and how many items are
+/// enqueued on it. Split-joins and feedback loops are in boxes. Each channel has a size.
 pub fn picture(
     alloc: Global,
     stream: &Stream,
