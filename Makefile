@@ -12,7 +12,7 @@ build: ## has a program: the proved one where it is proved already, else one tha
 prove: ## proves the compiler and keeps the proved program (30 to 45 minutes)
 	./strc --prove
 
-gate: ## proves and tests everything, and the documents (some 260 processor minutes)
+gate: ## proves and tests everything, and the documents (some 280 processor minutes)
 	@scripts/documents --check; documents=$$?; scripts/unused; unused=$$?; \
 	rt ci && ./strc --keep && scripts/refuse-memory --cases && \
 	scripts/native-cases --plain --programs 300 && exit $$((documents + unused))
