@@ -13,13 +13,16 @@ use std::thread::{Builder, Threads};
 use std::{env, thread};
 use strc_cli::answer::main_name;
 use strc_cli::execute::{CliError, Status};
-use strc_cli::explanation::{Explained, execute_explained};
-use strc_cli_input::device::Told;
+use strc_cli::explanation::execute_explained;
+use strc_cli_input::device::{Sink, Source, Told};
+use strc_cli_input::watched_input::WatchedInput;
+use strc_cli_input::watched_output::WatchedOutput;
 use strc_cli_words::line::{Command, Line, LineFault};
 use strc_cli_words::words::{VERSION, asks_for_help, asks_for_version, command, usage_error};
 use strc_lex::program_text::{TextFault, read_text};
 use strc_live::execute_live::execute_live;
 use strc_live::explanation::live_message;
+use strc_run::compile::Plan;
 use strc_run_links::{Gate, OpenGate, StageTimes};
 use strc_stage_steps::Stage;
 
@@ -93,7 +96,18 @@ fn print_usage(rt: &HostRuntime, words: &[&str]) -> u8 {
         };
     }
     let _ = eprintln!(rt; "{text}");
+    if let Some(file) = program_in_place_of_command(words) {
+        let _ = eprintln!(rt; "  tip: to run a program, use 'strc run {file}'");
+    }
     WORDS
+}
+
+// The file of a program, where it stands in the place of a command.
+fn program_in_place_of_command<'a>(words: &[&'a str]) -> Option<&'a str> {
+    match words.get(1) {
+        Some(word) if word.strip_suffix(".str").is_some() => Some(*word),
+        _ => None,
+    }
 }
 
 // Reads the text that the line names, and executes it.
@@ -133,7 +147,7 @@ fn execute_text<T: Threads + Wait + Sync>(
     text: &[u8],
 ) -> u8 {
     if line.live {
-        return status_of(rt, live_by(rt, name, line, text));
+        return live_by(rt, name, line, text);
     }
     if let Command::Run {
         workers,
@@ -142,21 +156,19 @@ fn execute_text<T: Threads + Wait + Sync>(
     } = &line.command
     {
         if let Ok(times) = StageTimes::new(rt.alloc(), rt) {
-            let explained = explained_by(rt, threads, name, line, text, &times);
-            if let Some(plan) = &explained.plan {
+            let (status, plan) = explained_by(rt, threads, name, line, text, &times);
+            if let Some(plan) = &plan {
                 let lines = times_message(rt.alloc(), plan, *workers, &times);
                 let _ = rt.stderr().write_all(&lines);
             }
-            return status_of(rt, explained.result);
+            return status;
         }
     }
-    status_of(
-        rt,
-        explained_by(rt, threads, name, line, text, &OpenGate).result,
-    )
+    explained_by(rt, threads, name, line, text, &OpenGate).0
 }
 
-// Executes it, each step of a stage by the gate, and tells a person what is wrong with it.
+// Executes it, each step of a stage by the gate, and tells a person what is wrong with it. What it
+// gives is the exit status, and the plan where one was run.
 fn explained_by<G: Gate<Stage>, T: Threads + Wait + Sync>(
     rt: &HostRuntime,
     threads: &T,
@@ -164,9 +176,9 @@ fn explained_by<G: Gate<Stage>, T: Threads + Wait + Sync>(
     line: &Line,
     text: &[u8],
     gate: &G,
-) -> Explained {
-    let mut input = Told::new(rt.stdin());
-    let mut output = Told::new(rt.stdout());
+) -> (u8, Option<Plan>) {
+    let mut input = WatchedInput::new(rt.alloc(), Told::new(rt.stdin()));
+    let mut output = WatchedOutput::new(Told::new(rt.stdout()));
     let explained = execute_explained(
         threads,
         rt.alloc(),
@@ -178,29 +190,43 @@ fn explained_by<G: Gate<Stage>, T: Threads + Wait + Sync>(
         gate,
     );
     let _ = rt.stderr().write_all(&explained.message);
-    explained
+    let status = status_of(rt, explained.result, &input, &output);
+    (status, explained.plan)
 }
 
 // Runs it over the input while it comes, and tells a person what is wrong with it.
-fn live_by(rt: &HostRuntime, name: &str, line: &Line, text: &[u8]) -> Result<Status, CliError> {
-    let mut input = Told::new(rt.stdin());
-    let mut output = Told::new(rt.stdout());
+fn live_by(rt: &HostRuntime, name: &str, line: &Line, text: &[u8]) -> u8 {
+    let mut input = WatchedInput::new(rt.alloc(), Told::new(rt.stdin()));
+    let mut output = WatchedOutput::new(Told::new(rt.stdout()));
     let report = execute_live(rt.alloc(), text, &line.command, &mut input, &mut output);
     let main = main_name(&line.command);
     let message = live_message(rt.alloc(), name, text, main, &report);
     let _ = rt.stderr().write_all(&message);
-    report.result
+    status_of(rt, report.result, &input, &output)
 }
 
-// The exit status of a call, and what a person reads where it failed.
-fn status_of(rt: &HostRuntime, told: Result<Status, CliError>) -> u8 {
+// The exit status of a call, and what a person reads where it failed, or where its input has a word
+// that is no number. Nothing is said where the output's reader has gone away, as `head` does.
+fn status_of<I: Source, O: Sink>(
+    rt: &HostRuntime,
+    told: Result<Status, CliError>,
+    input: &WatchedInput<I>,
+    output: &WatchedOutput<O>,
+) -> u8 {
     match told {
+        Ok(Status::Refused) => {
+            if let Ok(line) = input.wrong_word_line(rt.alloc()) {
+                let _ = rt.stderr().write_all(&line);
+            }
+            Status::Refused.number()
+        }
         Ok(status) => status.number(),
         Err(CliError::Memory) => out_of_memory(rt),
         Err(CliError::Read) => {
             let _ = eprintln!(rt; "strc: reading the input from standard input failed");
             FAILED
         }
+        Err(CliError::Write) if output.lost_reader() => FAILED,
         Err(CliError::Write) => {
             let _ = eprintln!(rt; "strc: writing the output to standard output failed");
             FAILED

@@ -42,7 +42,7 @@ plan_size text choice plan is = record {
 
 module _ (text : List ℕ) (main : Option (String Global)) (ways fuse : ℕ) (plan : PlanParts)
     (is : IsPlanOf text (chosen main ways fuse) plan) (rounds : Option ℕ)
-    (workers : ℕ) (stats : Bool) (bytes : Option (List ℕ)) where
+    (workers : ℕ) (batch : Option ℕ) (stats : Bool) (bytes : Option (List ℕ)) where
   -- the plan's nodes are the stream's
   same_reader : plan_reads plan ≡ has_reader is.accepted.stream
   same_reader = ap (list_any reads_input) is.nodes
@@ -75,7 +75,7 @@ module _ (text : List ℕ) (main : Option (String Global)) (ways fuse : ℕ) (pl
     given_here = subst (λ b. IsInput b bytes input) same_reader given
 
     plan_answered : (result : Answer) → IsRunAnswer plan input rounds workers result
-        → IsAnswered text (command.Run rounds workers ways fuse stats main) bytes (Ok result)
+        → IsAnswered text (command.Run rounds workers ways fuse batch stats main) bytes (Ok result)
     plan_answered (answer.Ran own outcome) runs = (
       subst (IsPlanOf text (chosen main ways fuse)) (sym runs.0) is,
       record {
@@ -107,13 +107,13 @@ module _ (text : List ℕ) (main : Option (String Global)) (ways fuse : ℕ) (pl
   pub input_run : PlansAnswerTexts → (numbers : Vec ℤ Global) (result : Answer)
       → IsInputOf (plan_reads plan) bytes (Ok numbers)
       → IsRunAnswer plan numbers.items rounds workers result
-      → IsAnswered text (command.Run rounds workers ways fuse stats main) bytes (Ok result)
+      → IsAnswered text (command.Run rounds workers ways fuse batch stats main) bytes (Ok result)
   input_run law numbers result given answers =
       plan_answered law numbers.items (input_is (plan_reads plan) numbers given) result answers
 
   -- or the input isn't read to its end
   pub stopped_run : (why : ReadStop) → IsInputOf (plan_reads plan) bytes (Err why)
-      → IsAnswered text (command.Run rounds workers ways fuse stats main) bytes (unread why)
+      → IsAnswered text (command.Run rounds workers ways fuse batch stats main) bytes (unread why)
   stopped_run (read.BadInput word) given = (
     reads_text (no_input (plan_reads plan) (read.BadInput word) given),
     bad_input (plan_reads plan) word given,

@@ -20,8 +20,7 @@ pub program_answers : (text : List ℕ) (main : Option (String Global)) (bytes :
     → IsProgramGiven plan result → IsAnswered text (command.Emit main) bytes (Ok result)
 program_answers text main bytes plan (answer.Emitted program) is given = record {
   plan = plan;
-  planned = is;
-  emitted = given;
+  answers = given text main is;
 }
 program_answers text main bytes plan (answer.Ran other outcome) is given = absurd given
 program_answers text main bytes plan (answer.Checked nodes channels) is given = absurd given

@@ -14,7 +14,8 @@ use Rattle.strc_cli_output.specs.Pictures.{picture_text}
 use Rattle.strc_cli_output.specs.Stages.{plan_picture_text}
 use Rattle.strc_stage_plan.specs.Plans.{PlanParts, graph_of}
 use Rattle.strc_stage_plan.specs.Bounds.{stage_bounds}
-use Rattle.strc_emit.specs.Emitting.{IsProgramOf, PassesItemLimit}
+use Rattle.strc_emit.specs.Emitting.{PassesItemLimit}
+use Rattle.strc_emit_texts.specs.Texts.{AnswersText}
 use Rattle.strc_run.specs.Accepts.{Accepts}
 use Rattle.strc_run.specs.Choices.{Choice}
 use Rattle.strc_run.specs.Plans.{IsPlanOf}
@@ -47,7 +48,7 @@ drawn_so ways fuse main = chosen main (unwrap_or ways 1) (unwrap_or fuse 0)
 -- how a command's text is compiled: nodes are split and units fused to run it, and to draw what is
 -- run
 abbrev pub choice_of : Command → Choice
-choice_of (command.Run rounds workers ways fuse stats main) = chosen main ways fuse
+choice_of (command.Run rounds workers ways fuse batch stats main) = chosen main ways fuse
 choice_of (command.Check main) = plain main
 choice_of (command.Plan main) = plain main
 choice_of (command.Emit main) = plain main
@@ -93,14 +94,12 @@ pub record HasPicture (text : List ℕ) (choice : Choice) (picture : List ℕ) :
   pub drawn : picture
       ≡ picture_text stream plan.graph plan.startup_counts plan.round_counts plan.schedule.sizes
 
--- the text is accepted, and this is the C of its plan
+-- the text is accepted, and this is the C of its plan, which means what its main stream means
 pub record HasProgram (text : List ℕ) (choice : Choice) (program : List ℕ) : Type 0 where
   pub plan : PlanParts
-  pub planned : IsPlanOf text choice plan
-  pub emitted : IsProgramOf plan program
+  pub answers : AnswersText text choice plan program
 
--- the text is accepted, and the arrays of its plan's C would have so many items, more than there may
--- be
+-- the text is accepted, and its plan's C would have so many items, more than there may be
 pub record HasTooManyItems (text : List ℕ) (choice : Choice) (items : ℕ) : Type 0 where
   pub plan : PlanParts
   pub planned : IsPlanOf text choice plan
@@ -136,7 +135,8 @@ IsPictureOf text workers ways fuse main picture =
 -- an answer is what a command asks of the text: the outcome of its rounds, with its plan, the size
 -- of its graph, its plan, its C, or a picture
 abbrev pub IsAsked : List ℕ → Command → (bytes : Option (List ℕ)) → Answer → Type 0
-IsAsked text (command.Run rounds workers ways fuse stats main) bytes (answer.Ran plan outcome) =
+IsAsked text (command.Run rounds workers ways fuse batch stats main) bytes
+    (answer.Ran plan outcome) =
     IsPlanOf text (chosen main ways fuse) plan
     × RunsText text (chosen main ways fuse) rounds workers bytes (Ok outcome)
 IsAsked text (command.Check main) bytes (answer.Checked nodes channels) =
@@ -150,7 +150,7 @@ IsAsked text _ bytes _ = ⊥
 
 -- a command asks for a run, which reads the input
 abbrev pub ReadsInput : List ℕ → Command → Type 0
-ReadsInput text (command.Run rounds workers ways fuse stats main) =
+ReadsInput text (command.Run rounds workers ways fuse batch stats main) =
     ReadsText text (chosen main ways fuse)
 ReadsInput text _ = ⊥
 
@@ -161,14 +161,15 @@ pub record HasBadWorkers (text : List ℕ) (choice : Choice) (workers : ℕ) : T
   pub bad : ¬ AreWorkers workers
 
 -- a command has no answer, for this reason: the text is refused; a word of its input writes no
--- number; its rounds aren't run, or what would run them isn't drawn; or its C would need too large
--- arrays
+-- number; its rounds aren't run, or what would run them isn't drawn; or its C would need too many
+-- items
 abbrev pub IsStopped : List ℕ → Command → (bytes : Option (List ℕ)) → Stop → Type 0
 IsStopped text command bytes (stop.Refused placed) =
     IsTrueOf text (choice_of command) placed.refusal
 IsStopped text command bytes (stop.BadInput word) =
     ReadsInput text command × WritesNumbers bytes (Err word)
-IsStopped text (command.Run rounds workers ways fuse stats main) bytes (stop.NotRun refused) =
+IsStopped text (command.Run rounds workers ways fuse batch stats main) bytes
+    (stop.NotRun refused) =
     RunsText text (chosen main ways fuse) rounds workers bytes (Err refused)
 IsStopped text (command.Graph workers ways fuse main) bytes (stop.NotRun BadWorkers) =
     HasBadWorkers text (drawn_so ways fuse main) (unwrap_or workers 1)
@@ -190,6 +191,6 @@ IsAnswered text command bytes (Err error.Write) = ⊥
 abbrev pub AnswersPlan : PlanParts → (rounds : Option ℕ) → (workers : ℕ)
     → (bytes : Option (List ℕ)) → Result Answer CliError → Type 0
 AnswersPlan plan rounds workers bytes result =
-    (text : List ℕ) (main : Option (String Global)) (ways fuse : ℕ) (stats : Bool)
-    → IsPlanOf text (chosen main ways fuse) plan
-    → IsAnswered text (command.Run rounds workers ways fuse stats main) bytes result
+    (text : List ℕ) (main : Option (String Global)) (ways fuse : ℕ) (batch : Option ℕ)
+    (stats : Bool) → IsPlanOf text (chosen main ways fuse) plan
+    → IsAnswered text (command.Run rounds workers ways fuse batch stats main) bytes result

@@ -1,12 +1,14 @@
 -- What comes of the input of a plan, and of its rounds over it.
-use Rattle.std.specs.Prelude.{◌≡◌, ℕ, ℤ, Bool, true, false, List, [], Option, Result, Ok}
-use Rattle.std.specs.Prelude.{Err, Vec}
+use Rattle.std.specs.Prelude.{◌≡◌, ℕ, ℤ, Bool, true, false, List, [], Option, Some, None, Result}
+use Rattle.std.specs.Prelude.{Err, Ok, Vec}
 use Rattle.std.specs.declared.alloc.Global.{Global}
 use Rattle.strc_cli_input.specs.declared.input.ReadStop.{ReadStop}
 use Rattle.strc_cli_input.specs.declared.input.ReadStop.TheVariants as stop
 use Rattle.strc_cli_input.specs.ReadInput.{ReadsNumbers}
 use Rattle.strc_stage_plan.specs.Plans.{PlanParts}
 use Rattle.strc_run.specs.Rounds.{IsRunOf}
+use Rattle.strc_run.specs.declared.sharing.Batching.{Batching}
+use Rattle.strc_run.specs.declared.sharing.Batching.TheVariants as batching
 use Rattle.strc_cli.specs.declared.execute.CliError.{CliError}
 use Rattle.strc_cli.specs.declared.execute.CliError.TheVariants as failure
 use Rattle.strc_cli.specs.declared.answer.Answer.{Answer}
@@ -19,6 +21,11 @@ abbrev pub IsInputOf : (reads : Bool) → (bytes : Option (List ℕ))
 IsInputOf true bytes result = ReadsNumbers bytes result
 IsInputOf false bytes (Ok numbers) = numbers.items ≡ []
 IsInputOf false bytes (Err why) = ⊥
+
+-- how many rounds are run at a time: so many where a number is given, else as many as suit them
+abbrev pub batching_of : Option ℕ → Batching
+batching_of (Some rounds) = batching.Of rounds
+batching_of None = batching.Chosen
 
 -- how the rounds of a plan are answered by so many workers
 abbrev pub IsRunAnswer : PlanParts → List ℤ → (rounds : Option ℕ) → (workers : ℕ)

@@ -24,7 +24,8 @@ use strc_run::compile::{Plan, compile_or_where};
 use strc_run::laws::{accepted_or_refused, plans_answer_texts};
 use strc_run::options::Options;
 use strc_run::refusal::Refusal;
-use strc_run::run::{Outcome, RunRefusal, reads_input, run};
+use strc_run::run::{Outcome, RunRefusal, reads_input, run_shared};
+use strc_run::sharing::{Batching, Sharing};
 use strc_run_links::Gate;
 use strc_run_refusal::placed_refusal::PlacedRefusal;
 use strc_stage_steps::Stage;
@@ -80,9 +81,18 @@ pub fn answer_to<G: Gate<Stage>, R: Threads + Wait + Sync, I: Source>(
             workers,
             ways: _,
             fuse: _,
+            batch,
             stats: _,
             main: _,
-        } => run_plan(rt, alloc, plan, *rounds, *workers, input, gate),
+        } => run_plan(
+            rt,
+            alloc,
+            plan,
+            *rounds,
+            sharing_of(*workers, *batch),
+            input,
+            gate,
+        ),
         Command::Check { main: _ } => Ok(Answer::Checked {
             nodes: plan.graph().nodes().len(),
             channels: plan.graph().channels().len(),
@@ -108,12 +118,11 @@ fn run_plan<G: Gate<Stage>, R: Threads + Wait + Sync, I: Source>(
     alloc: Global,
     plan: Plan,
     rounds: Option<u32>,
-    workers: u32,
+    sharing: Sharing,
     input: &mut I,
     gate: &G,
 ) -> Result<Answer, CliError>
-    ensures run { AnswersPlan plan rounds workers (I.remaining input.old)
-        result }
+    ensures run { AnswersPlan plan rounds sharing.workers (I.remaining input.old) result }
     ensures failed { result ≡ Err CliError.Read → I.has_failed input.new ≡ true }
     ensures steady { result ≢ Err CliError.Read → I.has_failed input.new ≡ I.has_failed input.old }
     ensures unread { (input.new ≡ input.old)
@@ -123,7 +132,7 @@ fn run_plan<G: Gate<Stage>, R: Threads + Wait + Sync, I: Source>(
     // The answer for the plan is the answer for its text.
     plans_answer_texts();
     match input_of(alloc, &plan, input) {
-        Ok(numbers) => Ok(run_numbers(rt, alloc, plan, rounds, workers, &numbers, gate)),
+        Ok(numbers) => Ok(run_numbers(rt, alloc, plan, rounds, sharing, &numbers, gate)),
         Err(stop) => unread(stop),
     }
 }
@@ -161,16 +170,28 @@ fn run_numbers<G: Gate<Stage>, R: Threads + Wait + Sync>(
     alloc: Global,
     plan: Plan,
     rounds: Option<u32>,
-    workers: u32,
+    sharing: Sharing,
     input: &[i32],
     gate: &G,
 ) -> Answer
-    ensures { IsRunAnswer plan input.now rounds workers result }
+    ensures { IsRunAnswer plan input.now rounds sharing.workers result }
 {
-    match run(rt, alloc, &plan, input, rounds, workers, gate) {
+    match run_shared(rt, alloc, &plan, input, rounds, sharing, gate) {
         Ok(outcome) => Answer::Ran(plan, outcome),
         Err(refusal) => Answer::Stopped(Stop::NotRun(refusal)),
     }
+}
+
+// By how many workers, and how many rounds at a time, a run is shared.
+fn sharing_of(workers: u32, batch: Option<u32>) -> Sharing
+    ensures workers { result.workers ≡ workers }
+    ensures batching { result.batching ≡ spec.batching_of batch }
+{
+    let batching = match batch {
+        Some(rounds) => Batching::Of(rounds),
+        None => Batching::Chosen,
+    };
+    Sharing { workers, batching }
 }
 
 /// How the command's text is to be compiled.

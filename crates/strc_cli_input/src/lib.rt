@@ -10,3 +10,5 @@ pub mod input;
 pub mod input_laws;
 pub mod number_reader;
 pub mod numbers;
+pub mod watched_input;
+pub mod watched_output;

@@ -9,13 +9,13 @@ ghost use Rattle.strc_cli_messages.specs.Told as told;
 
 use crate::refusal::tokens_of;
 use std::alloc::Global;
-use strc_cli_places::bodies::faulting_statement;
 use strc_cli_source::message::Message;
 use strc_cli_source::nodes::push_node;
 use strc_cli_source::operators::faulting_part;
 use strc_cli_source::source::Source;
 use strc_cli_source::spelling::spelled_or_first;
 use strc_cli_source::tokens::keyword_before;
+use strc_cli_statements::bodies::faulting_statement;
 use strc_elab_graph::graph::{Graph, Node};
 use strc_elab_graph::instance::Instance;
 use strc_lex::token::Keyword;
@@ -221,14 +221,14 @@ pub fn bad_input_message(alloc: Global, word: u64) -> Result<Vec<u8>, NoMemory>
     Ok(message.end(alloc, "standard input", b"", None)?)
 }
 
-/// What a person reads where a program's C would need arrays for so many items, too many.
+/// What a person reads where a program's C would have so many items, too many.
 pub fn array_limit_message(alloc: Global, file: &str, items: u64) -> Result<Vec<u8>, NoMemory>
     ensures { IfOk result (λ message. IsMessage file.now [] message.items) }
 {
     let mut message = Message::new(alloc);
-    message.add(b"the arrays of its C would have ")?;
+    message.add(b"its C would have ")?;
     message.number(items)?;
-    message.add(b" items, more than 268435456: a round moves too many")?;
+    message.add(b" items, more than 268435456: a round moves, or filters hold, too many")?;
     let told = message.end(alloc, file, b"", None)?;
     Ok(told)
 }

@@ -11,10 +11,11 @@ use crate::pairs::pair_message;
 use crate::sentences::plain_sentence;
 use crate::site::site_of;
 use std::alloc::Global;
+use strc_cli_counts::large::large_channel;
+use strc_cli_counts::unbalanced::unbalanced_items;
 use strc_cli_places::known::Known;
 use strc_cli_places::places::{code_of, place_of_refusal};
 use strc_cli_places::rate_places::{Moved, moved_of, rate_keyword};
-use strc_cli_source::counts::large_channel;
 use strc_cli_source::message::Message;
 use strc_cli_source::nodes::{push_channel, push_node};
 use strc_cli_source::preorder::{Preorder, preorder_of};
@@ -152,7 +153,8 @@ fn push_sentence(
             push_node(message, known.graph, *node)?;
             Ok(message.add(plain_sentence(source, refusal))?)
         }
-        Refusal::Inconsistent { channel } | Refusal::BufferLimit { channel } => {
+        Refusal::Inconsistent { channel } => push_unbalanced(message, known, *channel),
+        Refusal::BufferLimit { channel } => {
             push_channel(message, known.graph, *channel)?;
             Ok(message.add(plain_sentence(source, refusal))?)
         }
@@ -163,6 +165,30 @@ fn push_sentence(
         }
         _ => Ok(message.add(plain_sentence(source, refusal))?),
     }
+}
+
+/// A channel that can't be balanced, and how many items come to its ends, where that is known.
+fn push_unbalanced(
+    message: &mut Message,
+    known: Known<'_>,
+    channel: usize,
+) -> Result<(), NoMemory> {
+    push_channel(message, known.graph, channel)?;
+    message.add(b" can't be balanced")?;
+    if let Some(graph) = known.graph {
+        if let Some(items) = unbalanced_items(known.alloc, graph, channel)? {
+            message.add(b": where ")?;
+            message.number(items.pushed.min(u128::from(u64::MAX)) as u64)?;
+            message.add(match items.pushed {
+                1 => b" item is pushed".as_slice(),
+                _ => b" items are pushed".as_slice(),
+            })?;
+            message.add(b", the other channels want ")?;
+            message.number(items.popped.min(u128::from(u64::MAX)) as u64)?;
+            message.add(b" to be popped")?;
+        }
+    }
+    Ok(())
 }
 
 /// The channel whose rates make the counts of a round too large, where it is known.

@@ -12,6 +12,7 @@ pub enum Stop {
     BadInput { word: u64 },
     /// The text is accepted, and isn't run.
     NotRun(RunRefusal),
-    /// The text is accepted, and its C would need arrays for so many items.
+    /// The text is accepted, and its C would have so many items, in the arrays of its channels and
+    /// in the slots of its filters.
     ArrayLimit { items: u64 },
 }

@@ -3,10 +3,7 @@ pub mod Keywords
 pub mod Large
 pub mod Marked
 pub mod Nodes
-pub mod OccurrencePlaces
-pub mod Occurrences
 pub mod Pairs
 pub mod Parts
 pub mod Refused
-pub mod Statements
 pub mod Streams

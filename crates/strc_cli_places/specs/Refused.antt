@@ -32,8 +32,8 @@ use Rattle.strc_cli_places.specs.Nodes.{MarksName}
 use Rattle.strc_cli_source.specs.Operators.{faulting_part}
 use Rattle.strc_cli_source.specs.Spelling.{MarksFrom}
 use Rattle.strc_cli_places.specs.Streams.{IsRecursive}
-use Rattle.strc_cli_places.specs.Statements.{fault_place, start_fault_place, uncounted_place}
-use Rattle.strc_cli_places.specs.Statements.{outside_place}
+use Rattle.strc_cli_statements.specs.Statements.{fault_place, start_fault_place, uncounted_place}
+use Rattle.strc_cli_statements.specs.Statements.{outside_place}
 
 -- the declared rate of a kind: a missing one is 0, and a missing peek rate is the pop rate
 abbrev pub declared_rate : RateKind → Body → Filter → ℤ

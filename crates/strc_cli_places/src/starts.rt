@@ -8,8 +8,8 @@ ghost use Rattle.strc_cli_places.specs.Streams as streams;
 
 use crate::composites::child_added;
 use crate::known::Known;
-use crate::occurrences::{nested_calls, occurrences_at_start, single, sought_for};
 use strc_cli_source::operators::faulting_part;
+use strc_cli_statements::occurrences::{nested_calls, occurrences_at_start, single, sought_for};
 use strc_lex_names::memory::NoMemory;
 use strc_lex_names::place::Span;
 use strc_parse_tree::tree::{Child, Member, StreamTree};

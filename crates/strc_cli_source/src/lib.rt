@@ -1,7 +1,7 @@
 // Takes a program's text with its tokens, and the stream and the graph that it means.
 // Gives what messages are built of: places by line and column or by what is written there, excerpts
 // with a mark, the operator that faults, names that are near to one; and nodes in preorder with the
-// statements they come from, their names, counts and stuck loops.
+// statements they come from, their names, rates and stuck loops.
 // The theorems to rely on: `place_of`: line and column are the text's; `heading`: what is marked of
 // a statement are its tokens up to its first block or semicolon, and of one that faults its only
 // operator that can (`faulting_part`); `preorder_of` gives a stream's nodes in preorder, each with
@@ -9,11 +9,10 @@
 // node that no channels join with node 0; a message is its file, a place where it is about one,
 // what it says, and a line feed.
 // Stands on strc_lex, whose tokens these are, on strc_work_meaning, whose faults, on
-// strc_elab_stream and strc_elab_graph, whose nodes, on strc_balance, whose counts, and on memchr,
-// strsim and itoa.
+// strc_elab_stream and strc_elab_graph, whose nodes, and on memchr, strsim and itoa.
 #![tactic(auto)]
 
-pub mod counts;
+pub mod channel_rates;
 pub mod message;
 pub mod nearest;
 pub mod nodes;

@@ -111,11 +111,24 @@ impl Message {
         let rest = line_from(text, part.start);
         let rest = &rest[..rest.len().min(SHOWN)];
         self.add(b"\n    ")?;
-        self.add(before)?;
-        self.add(rest)?;
+        self.shown(before)?;
+        self.shown(rest)?;
         self.add(b"\n    ")?;
         self.blank(before)?;
         self.mark(part.end.saturating_sub(part.start).min(rest.len()))
+    }
+
+    /// Bytes of a text as they are, but for those that a terminal might obey: these are question
+    /// marks.
+    fn shown(&mut self, bytes: &[u8]) -> Result<(), AllocError> {
+        for byte in bytes {
+            self.bytes.push(match *byte {
+                b'\t' => b'\t',
+                0x00..=0x1f | 0x7f => b'?',
+                byte => byte,
+            })?;
+        }
+        Ok(())
     }
 
     /// As much room as these bytes take: a tab for a tab, and none inside of a character.

@@ -15,7 +15,7 @@ use Rattle.strc_cli_words.specs.declared.line.Command.TheVariants as command
 use Rattle.strc_cli_words.specs.Lines.{AreWithin, AsksFor, IsBetween, IsCommand, IsCommandOf}
 use Rattle.strc_cli_words.specs.Lines.{IsKnown}
 use Rattle.strc_cli_words.specs.Lines.{IsLineIn, IsNumberOf, IsNumberOr, WritesBetween, fault_by}
-use Rattle.strc_cli_words.specs.Lines.{faults, most_fused, most_ways, strc_app}
+use Rattle.strc_cli_words.specs.Lines.{faults, most_batched, most_fused, most_ways, strc_app}
 use Rattle.strc_cli_words.proofs.FaultlessWords.{faultless_command}
 use Rattle.strc_cli_words.proofs.LineWords.{not_check, same_met}
 
@@ -40,18 +40,21 @@ short (Some number) is = is.1
 -- the command of what was met has numbers within bounds where what was found for it has
 within_known : (name : Text) (rows : List Row) (command : Command) → IsKnown name rows
     → IsCommandOf name rows command → AreWithin command
-within_known name rows (command.Run rounds workers ways fuse stats main) (inl (run, numbers)) is = (
-  between 1 1 most_ways (omega arith, omega arith) (one_of (codes "ways") rows) numbers.1.few ways
-      is.3,
-  (between 0 0 most_fused (omega arith, omega arith) (one_of (codes "fuse") rows) numbers.1.short
-      fuse is.4).1,
-)
-within_known name rows (command.Run rounds workers ways fuse stats main) (inr (inl other)) is = cc
-within_known name rows (command.Run rounds workers ways fuse stats main)
+within_known name rows (command.Run rounds workers ways fuse batch stats main)
+    (inl (run, numbers)) is = (
+      between 1 1 most_ways (omega arith, omega arith) (one_of (codes "ways") rows)
+          numbers.sharing.few ways is.3,
+      (between 0 0 most_fused (omega arith, omega arith) (one_of (codes "fuse") rows)
+          numbers.sharing.short fuse is.4).1,
+      given 1 most_batched (one_of (codes "batch") rows) numbers.batched batch is.5,
+    )
+within_known name rows (command.Run rounds workers ways fuse batch stats main)
+    (inr (inl other)) is = cc
+within_known name rows (command.Run rounds workers ways fuse batch stats main)
     (inr (inr (inl other))) is = cc
-within_known name rows (command.Run rounds workers ways fuse stats main)
+within_known name rows (command.Run rounds workers ways fuse batch stats main)
     (inr (inr (inr (inl other)))) is = cc
-within_known name rows (command.Run rounds workers ways fuse stats main)
+within_known name rows (command.Run rounds workers ways fuse batch stats main)
     (inr (inr (inr (inr (other, sharing))))) is = cc
 within_known name rows (command.Graph workers ways fuse main)
     (inr (inr (inr (inr (graph, sharing))))) is = (

@@ -1,5 +1,6 @@
 -- Words that have no fault leave rows of one value each, a number of 32 bits for `--rounds`
--- and `--workers`, one from 1 to 64 for `--ways`, and one of at most 65,536 for `--fuse`.
+-- and `--workers`, one from 1 to 64 for `--ways`, one of at most 65,536 for `--fuse`, and one from
+-- 1 to 4,096 for `--batch`.
 use Rattle.std.proofs.Common.{append-nil, ◌≡◌, ◌∙◌, ℕ, zero, suc, Bool, true, false, cond, not}
 use Rattle.std.proofs.Common.{◌&&◌, refl, sym, ap, subst, List, [], ◌∷◌, ◌++◌, length, Option, Some}
 use Rattle.std.proofs.Common.{None, is_some, ◌⊎◌, inl, inr, arith, codes}
@@ -38,7 +39,7 @@ use Rattle.clap.specs.declared.builder.value_parser.Reading.{Reading}
 use Rattle.clap.specs.declared.builder.value_parser.Reading.TheVariants.{WithoutMinus}
 use Rattle.clap.specs.declared.builder.value_parser.ValueParser.{ValueParser}
 use Rattle.clap.specs.declared.builder.value_parser.ValueParser.TheVariants.{Signed}
-use Rattle.strc_cli_words.specs.Lines.{most_fused, most_ways}
+use Rattle.strc_cli_words.specs.Lines.{most_batched, most_fused, most_ways}
 
 -- ---- faults of two steps
 
@@ -104,11 +105,16 @@ takes_ways id = bytes_eq id (codes "ways")
 abbrev pub takes_entries : Text → Bool
 takes_entries id = bytes_eq id (codes "fuse")
 
+-- whether an option takes a number of rounds at a time
+abbrev pub takes_batch : Text → Bool
+takes_batch id = bytes_eq id (codes "batch")
+
 -- a value of the option with this id is a number where the option takes one
 pub record IsValueFor (id : Text) (reading : Reading) (value : Text) : Type 0 where
   pub number : takes_number id ≡ true → IsRead 0 4294967295 reading value
   pub ways : takes_ways id ≡ true → IsRead 1 most_ways reading value
   pub entries : takes_entries id ≡ true → IsRead 0 most_fused reading value
+  pub batch : takes_batch id ≡ true → IsRead 1 most_batched reading value
 
 -- a row of one value, which is a number where the row is that of an option that takes one
 pub record IsGood (row : Row) : Type 0 where
@@ -128,6 +134,7 @@ pub record TakesText (id : Text) : Type 0 where
   pub number : takes_number id ≡ false
   pub ways : takes_ways id ≡ false
   pub entries : takes_entries id ≡ false
+  pub batch : takes_batch id ≡ false
 
 -- an argument of no value that one use turns to one, and that takes no number
 pub record SetsFlag (rule : Rule) : Type 0 where
@@ -194,7 +201,8 @@ any_value id reading value text =
     let number = text.number in
     let ways = text.ways in
     let entries = text.entries in
-    record { number = λ is. cc; ways = λ is. cc; entries = λ is. cc }
+    let batch = text.batch in
+    record { number = λ is. cc; ways = λ is. cc; entries = λ is. cc; batch = λ is. cc }
 
 two_values : (count : ℕ) → range_kinds 1 1 (suc (suc count)) ≡ [] → ⊥
 two_values count none =

@@ -33,13 +33,15 @@ use Rattle.std.specs.Prelude.{if◌then◌else◌}
 use Rattle.clap.specs.declared.builder.action.ArgAction.TheVariants as action
 use Rattle.clap.specs.declared.builder.value_parser.Reading.{Reading}
 use Rattle.clap.specs.declared.builder.value_parser.ValueParser.TheVariants.{Signed}
-use Rattle.strc_cli_words.specs.Lines.{HasSharing, IsBetween, IsCommand, IsNumber, Writes32}
-use Rattle.strc_cli_words.specs.Lines.{WritesBetween, check_app, faults, graph_app, most_fused}
-use Rattle.strc_cli_words.specs.Lines.{emit_app, most_ways, plan_app, run_app, strc_app}
+use Rattle.strc_cli_words.specs.Lines.{HasNumbers, HasSharing, IsBetween, IsCommand, IsNumber}
+use Rattle.strc_cli_words.specs.Lines.{Writes32}
+use Rattle.strc_cli_words.specs.Lines.{WritesBetween, check_app, faults, graph_app, most_batched}
+use Rattle.strc_cli_words.specs.Lines.{emit_app, most_fused, most_ways, plan_app, run_app, strc_app}
 use Rattle.strc_cli_words.proofs.FaultlessRows.{none_first, none_second, Each, find_each, IsGood}
 use Rattle.strc_cli_words.proofs.FaultlessRows.{HasPlainDefault, IsPlainRule, IsRead, IsValueFor}
 use Rattle.strc_cli_words.proofs.FaultlessRows.{TakesText, any_value, defaults_good, settled_good}
-use Rattle.strc_cli_words.proofs.FaultlessRows.{takes_entries, takes_number, takes_ways, walk_good}
+use Rattle.strc_cli_words.proofs.FaultlessRows.{takes_batch, takes_entries, takes_number}
+use Rattle.strc_cli_words.proofs.FaultlessRows.{takes_ways, walk_good}
 
 -- ---- where the program's words stop
 
@@ -195,8 +197,9 @@ shape_of app = built_leaf (inherited (with_leaf_noted (marked_built strc_app.top
 
 -- FILE and NAME, which are no numbers
 is_text : {id : Text} → takes_number id ≡ false → takes_ways id ≡ false → takes_entries id ≡ false
-    → TakesText id
-is_text number ways entries = record { number = number; ways = ways; entries = entries }
+    → takes_batch id ≡ false → TakesText id
+is_text number ways entries batch =
+    record { number = number; ways = ways; entries = entries; batch = batch }
 
 text_fits : {id : Text} {reading : Reading} {value : Text} → TakesText id
     → IsValueFor id reading value
@@ -211,13 +214,14 @@ takes_one rule set one fits = inl (record { action = set; range = one; fits = fi
 
 plain_run : Each IsPlainRule (shape_of run_app).rules
 plain_run = (
-  takes_one _ refl refl (λ value passes. text_fits (is_text refl refl refl)),
+  takes_one _ refl refl (λ value passes. text_fits (is_text refl refl refl refl)),
   (
     takes_one _ refl refl
         (λ value passes. record {
           number = λ is. (refl, passes);
           ways = λ is. cc;
           entries = λ is. cc;
+          batch = λ is. cc;
         }),
     (
       takes_one _ refl refl
@@ -225,6 +229,7 @@ plain_run = (
             number = λ is. (refl, passes);
             ways = λ is. cc;
             entries = λ is. cc;
+            batch = λ is. cc;
           }),
       (
         takes_one _ refl refl
@@ -232,6 +237,7 @@ plain_run = (
               number = λ is. cc;
               ways = λ is. (refl, passes);
               entries = λ is. cc;
+              batch = λ is. cc;
             }),
         (
           takes_one _ refl refl
@@ -239,24 +245,34 @@ plain_run = (
                 number = λ is. cc;
                 ways = λ is. cc;
                 entries = λ is. (refl, passes);
+                batch = λ is. cc;
               }),
           (
-            inr (inl (record {
-              action = refl;
-              range = refl;
-              missing = refl;
-              text = is_text refl refl refl;
-            })),
+            takes_one _ refl refl
+                (λ value passes. record {
+                  number = λ is. cc;
+                  ways = λ is. cc;
+                  entries = λ is. cc;
+                  batch = λ is. (refl, passes);
+                }),
             (
               inr (inl (record {
                 action = refl;
                 range = refl;
                 missing = refl;
-                text = is_text refl refl refl;
+                text = is_text refl refl refl refl;
               })),
               (
-                takes_one _ refl refl (λ value passes. text_fits (is_text refl refl refl)),
-                (inr (inr refl), tt),
+                inr (inl (record {
+                  action = refl;
+                  range = refl;
+                  missing = refl;
+                  text = is_text refl refl refl refl;
+                })),
+                (
+                  takes_one _ refl refl (λ value passes. text_fits (is_text refl refl refl refl)),
+                  (inr (inr refl), tt),
+                ),
               ),
             ),
           ),
@@ -278,18 +294,21 @@ default_run = (
         (
           inl refl,
           (
-            inr (record {
-              value = codes "false";
-              is = refl;
-              text = is_text refl refl refl;
-            }),
+            inl refl,
             (
               inr (record {
                 value = codes "false";
                 is = refl;
-                text = is_text refl refl refl;
+                text = is_text refl refl refl refl;
               }),
-              (inl refl, (inl refl, tt)),
+              (
+                inr (record {
+                  value = codes "false";
+                  is = refl;
+                  text = is_text refl refl refl refl;
+                }),
+                (inl refl, (inl refl, tt)),
+              ),
             ),
           ),
         ),
@@ -300,13 +319,14 @@ default_run = (
 
 plain_graph : Each IsPlainRule (shape_of graph_app).rules
 plain_graph = (
-  takes_one _ refl refl (λ value passes. text_fits (is_text refl refl refl)),
+  takes_one _ refl refl (λ value passes. text_fits (is_text refl refl refl refl)),
   (
     takes_one _ refl refl
         (λ value passes. record {
           number = λ is. (refl, passes);
           ways = λ is. cc;
           entries = λ is. cc;
+          batch = λ is. cc;
         }),
     (
       takes_one _ refl refl
@@ -314,6 +334,7 @@ plain_graph = (
             number = λ is. cc;
             ways = λ is. (refl, passes);
             entries = λ is. cc;
+            batch = λ is. cc;
           }),
       (
         takes_one _ refl refl
@@ -321,9 +342,10 @@ plain_graph = (
               number = λ is. cc;
               ways = λ is. cc;
               entries = λ is. (refl, passes);
+              batch = λ is. cc;
             }),
         (
-          takes_one _ refl refl (λ value passes. text_fits (is_text refl refl refl)),
+          takes_one _ refl refl (λ value passes. text_fits (is_text refl refl refl refl)),
           (inr (inr refl), tt),
         ),
       ),
@@ -341,9 +363,9 @@ other_rules = (shape_of check_app).rules
 
 plain_other : Each IsPlainRule other_rules
 plain_other = (
-  takes_one _ refl refl (λ value passes. text_fits (is_text refl refl refl)),
+  takes_one _ refl refl (λ value passes. text_fits (is_text refl refl refl refl)),
   (
-    takes_one _ refl refl (λ value passes. text_fits (is_text refl refl refl)),
+    takes_one _ refl refl (λ value passes. text_fits (is_text refl refl refl refl)),
     (inr (inr refl), tt),
   ),
 )
@@ -485,6 +507,17 @@ sharing_read rows good =
       short = fuse.between;
     }
 
+numbers_read : (rows : List Row) → Each IsGood rows → HasNumbers rows
+numbers_read rows good =
+    let batch = number_read (codes "batch") 1 most_batched (omega arith)
+    (λ id reading value is fits. fits.batch is) rows good in
+    record {
+      rounds = rounds_read rows good;
+      sharing = sharing_read rows good;
+      batch = batch.number;
+      batched = batch.between;
+    }
+
 file_given : (given : Bool) → check_kinds false false (not given || false) ≡ [] → given ≡ true
 file_given true none = refl
 file_given false none = cc
@@ -540,7 +573,7 @@ runs words none =
       name = codes "run";
       rows = rows;
       is = refl;
-      known = inl (refl, (rounds_read rows good, sharing_read rows good));
+      known = inl (refl, numbers_read rows good);
       file = given_file rows good (file_given (is_given (codes "FILE") rows) faultless.checks);
     }
 

@@ -1,8 +1,8 @@
 -- What the words of a command line ask for. After the program's name they are
--- `run FILE [--rounds N] [--workers N] [--ways N] [--fuse N] [--stats] [--live] [--main NAME]`,
--- `check FILE [--main NAME]`, `plan FILE [--main NAME]`, `emit FILE [--main NAME]` or
--- `graph FILE [--workers N] [--ways N] [--fuse N] [--main NAME]`, and are read as the crate `clap`
--- reads the words of a command: `strc_app` describes ours.
+-- `run FILE [--rounds N] [--workers N] [--ways N] [--fuse N] [--batch N] [--stats] [--live]
+-- [--main NAME]`, `check FILE [--main NAME]`, `plan FILE [--main NAME]`, `emit FILE [--main NAME]`
+-- or `graph FILE [--workers N] [--ways N] [--fuse N] [--main NAME]`, and are read as the crate
+-- `clap` reads the words of a command: `strc_app` describes ours.
 use Rattle.std.specs.Prelude.{◌≡◌, ◌⊎◌, ◌↔◌, ℕ, ◌<◌, ◌≤◌, ◌^◌, pos, Bool, true, false, List, []}
 use Rattle.std.specs.Prelude.{Option, Some, None, IfSome, IsSome, option_map, string_bytes, codes}
 use Rattle.std.specs.Str.Parse.{IsNumeral, digits_value, without_leading_plus}
@@ -23,17 +23,17 @@ use Rattle.strc_cli_words.specs.declared.line.Command.TheVariants as command
 
 -- the name of the main stream that a command gives
 abbrev pub main_of : Command → Option (List ℕ)
-main_of (command.Run rounds workers ways fuse stats main) = option_map string_bytes main
+main_of (command.Run rounds workers ways fuse batch stats main) = option_map string_bytes main
 main_of (command.Check main) = option_map string_bytes main
 main_of (command.Plan main) = option_map string_bytes main
 main_of (command.Emit main) = option_map string_bytes main
 main_of (command.Graph workers ways fuse main) = option_map string_bytes main
 
 -- without words the text comes from standard input, and five rounds are run by one worker, whose
--- nodes aren't split and whose units aren't fused
+-- nodes aren't split and whose units aren't fused, as many at a time as suit them
 abbrev pub default_line : Line
 default_line =
-    record { file = None; command = command.Run (Some 5) 1 1 0 false None; live = false }
+    record { file = None; command = command.Run (Some 5) 1 1 0 None false None; live = false }
 
 -- FILE, which has to be given
 abbrev pub file_rule : Rule
@@ -71,6 +71,15 @@ most_fused = 65536
 abbrev pub fuse_rule : Rule
 fuse_rule = record (number_rule (codes "fuse")) { parser = Some (Signed (pos 0) (pos most_fused)) }
 
+-- the greatest number of rounds at a time that can be asked for
+abbrev pub most_batched : ℕ
+most_batched = 4096
+
+-- `--batch N`
+abbrev pub batch_rule : Rule
+batch_rule =
+    record (number_rule (codes "batch")) { parser = Some (Signed (pos 1) (pos most_batched)) }
+
 -- `--stats`
 abbrev pub stats_rule : Rule
 stats_rule =
@@ -92,10 +101,13 @@ with_sharing app = with_rule (with_rule (with_rule app workers_rule) ways_rule) 
 abbrev pub rounds_app : App
 rounds_app = with_rule (with_rule (new_app (codes "run")) file_rule) rounds_rule
 
+-- those that say how its rounds are run too
+abbrev pub batch_app : App
+batch_app = with_rule (with_sharing rounds_app) batch_rule
+
 -- the words of `run`
 abbrev pub run_app : App
-run_app =
-    with_rule (with_rule (with_rule (with_sharing rounds_app) stats_rule) live_rule) main_rule
+run_app = with_rule (with_rule (with_rule batch_app stats_rule) live_rule) main_rule
 
 -- the words of `check`
 abbrev pub check_app : App
@@ -157,13 +169,15 @@ IsFlagOf text flag = (flag ≡ true) ↔ (text ≡ Some (codes "true"))
 
 -- this command is that of the name and of what was found for its options, whatever its main stream;
 -- `run` has a number of rounds, one of workers and one of copies, which are 1 where none is given,
--- one of entries, which is 0 there, and a flag; `graph` has the middle three, where they are given
+-- one of entries, which is 0 there, one of rounds at a time, where it is given, and a flag; `graph`
+-- has those of workers, copies and entries, where they are given
 abbrev pub IsCommandOf : Text → List Row → Command → Type 0
-IsCommandOf name rows (command.Run rounds workers ways fuse stats main) =
+IsCommandOf name rows (command.Run rounds workers ways fuse batch stats main) =
     (name ≡ codes "run") × IsNumberOf (one_of (codes "rounds") rows) rounds
     × IsNumberOr 1 (one_of (codes "workers") rows) workers
     × IsNumberOr 1 (one_of (codes "ways") rows) ways
-    × IsNumberOr 0 (one_of (codes "fuse") rows) fuse × IsFlagOf (one_of (codes "stats") rows) stats
+    × IsNumberOr 0 (one_of (codes "fuse") rows) fuse
+    × IsNumberOf (one_of (codes "batch") rows) batch × IsFlagOf (one_of (codes "stats") rows) stats
 IsCommandOf name rows (command.Check main) = name ≡ codes "check"
 IsCommandOf name rows (command.Plan main) = name ≡ codes "plan"
 IsCommandOf name rows (command.Emit main) = name ≡ codes "emit"
@@ -193,13 +207,16 @@ pub record HasSharing (rows : List Row) : Type 0 where
   pub short : WritesBetween 0 most_fused (one_of (codes "fuse") rows)
 
 -- so are the options of `run` that take numbers
-abbrev pub HasNumbers : List Row → Type 0
-HasNumbers rows = IsNumber (one_of (codes "rounds") rows) × HasSharing rows
+pub record HasNumbers (rows : List Row) : Type 0 where
+  pub rounds : IsNumber (one_of (codes "rounds") rows)
+  pub sharing : HasSharing rows
+  pub batch : IsNumber (one_of (codes "batch") rows)
+  pub batched : WritesBetween 1 most_batched (one_of (codes "batch") rows)
 
--- the numbers of copies and of entries are within their bounds
+-- the numbers of copies, of entries and of rounds at a time are within their bounds
 abbrev pub AreWithin : Command → Type 0
-AreWithin (command.Run rounds workers ways fuse stats main) =
-    IsBetween 1 most_ways ways × (fuse ≤ most_fused)
+AreWithin (command.Run rounds workers ways fuse batch stats main) =
+    IsBetween 1 most_ways ways × (fuse ≤ most_fused) × IfSome batch (IsBetween 1 most_batched)
 AreWithin (command.Graph workers ways fuse main) =
     IfSome ways (IsBetween 1 most_ways) × IfSome fuse (λ entries. entries ≤ most_fused)
 AreWithin command = Unit {0}

@@ -16,6 +16,8 @@ pub enum Command {
         /// Two neighbouring units become one where their list has at most so many entries, 0 to
         /// 65,536.
         fuse: u32,
+        /// How many rounds one worker runs at a time, 1 to 4,096, where a number is given.
+        batch: Option<u32>,
         /// Is the time of each stage to be written to standard error?
         stats: bool,
         /// The name of the main stream, where one is given.

@@ -7,12 +7,12 @@ ghost use Rattle.clap.specs.Words.{app_of, found_of, kind_of, new_app, rows_of, 
 ghost use Rattle.clap.specs.Words.{subcommand_rows_of, with_rule};
 ghost use Rattle.clap.specs.Walk.{one_of, texts};
 ghost use Rattle.clap.specs.declared.builder.command.Command.TheViews.{out-Command as fields_of};
-ghost use Rattle.strc_cli_words.specs.Lines.{AsksFor, HasNumbers, HasSharing, IsCommand};
+ghost use Rattle.strc_cli_words.specs.Lines.{AsksFor, HasNumbers, HasSharing, IsCommand, batch_app};
 ghost use Rattle.strc_cli_words.specs.Lines.{IsCommandOf, IsFlagOf, IsKnown, IsLineIn, IsNumber};
 ghost use Rattle.strc_cli_words.specs.Lines.{IsNumberOf, check_app, default_line, fault_by, faults};
 ghost use Rattle.strc_cli_words.specs.Lines.{file_rule, fuse_rule, graph_app, main_of, main_rule};
 ghost use Rattle.strc_cli_words.specs.Lines.{number_rule, plan_app, rounds_app, rounds_rule};
-ghost use Rattle.strc_cli_words.specs.Lines.{emit_app, run_app};
+ghost use Rattle.strc_cli_words.specs.Lines.{batch_rule, emit_app, run_app};
 ghost use Rattle.strc_cli_words.specs.Lines.{live_rule, stats_rule, strc_app, ways_rule};
 ghost use Rattle.strc_cli_words.specs.Lines.{with_sharing, workers_rule};
 
@@ -42,6 +42,9 @@ pub const WAYS_LIMIT: u32 = 64;
 /// The greatest length of a fused unit's list that can be asked for.
 pub const FUSE_LIMIT: u32 = 65_536;
 
+/// The greatest number of rounds at a time that can be asked for.
+pub const BATCH_LIMIT: u32 = 4_096;
+
 /// Reads the words of a command line, the program's name first.
 ///
 /// With no words after the name the text comes from standard input and runs for 5 rounds.
@@ -59,6 +62,7 @@ pub fn command<'a>(alloc: Global, words: &'a [&'a str]) -> Result<Line, LineFaul
                 workers: BARE_WORKERS,
                 ways: BARE_WAYS,
                 fuse: BARE_FUSE,
+                batch: None,
                 stats: false,
                 main: None,
             },
@@ -135,17 +139,25 @@ fn with_last<T: Drop>(
     Ok(items)
 }
 
-// The words `run FILE [--rounds N] [--workers N] [--ways N] [--fuse N] [--stats] [--live]
-// [--main NAME]`.
+// The words `run FILE [--rounds N] [--workers N] [--ways N] [--fuse N] [--batch N] [--stats]
+// [--live] [--main NAME]`.
 fn run_command<'a>(alloc: Global) -> Result<clap::Command<'a>, AllocError>
     ensures app { IfOk result (λ run. app_of run ≡ run_app) }
     ensures local { IfOk result (λ run. (fields_of run).has_globals ≡ false) }
 {
-    let rounds = rounds_command(alloc)?;
-    with_sharing_options(alloc, rounds)?
+    batch_command(alloc)?
         .arg(stats_option(alloc))?
         .arg(live_option(alloc))?
         .arg(main_option(alloc))
+}
+
+// The words `run FILE [--rounds N] [--workers N] [--ways N] [--fuse N] [--batch N]`.
+fn batch_command<'a>(alloc: Global) -> Result<clap::Command<'a>, AllocError>
+    ensures app { IfOk result (λ run. app_of run ≡ batch_app) }
+    ensures local { IfOk result (λ run. (fields_of run).has_globals ≡ false) }
+{
+    let rounds = rounds_command(alloc)?;
+    with_sharing_options(alloc, rounds)?.arg(batch_option(alloc))
 }
 
 // The words `run FILE [--rounds N]`.
@@ -275,6 +287,15 @@ fn fuse_option<'a>(alloc: Global) -> Arg<'a>
         .help("Two neighbouring units become one where their list has at most N entries")
 }
 
+fn batch_option<'a>(alloc: Global) -> Arg<'a>
+    ensures rule { rule_of result ≡ batch_rule }
+    ensures local { result.global ≡ false }
+{
+    number_option(alloc, "batch")
+        .value_parser(value_parser!(u32).range(1..=i64::from(BATCH_LIMIT)))
+        .help("How many rounds one worker runs at a time, 1 to 4,096")
+}
+
 fn stats_option<'a>(alloc: Global) -> Arg<'a>
     ensures rule { rule_of result ≡ stats_rule }
     ensures local { result.global ≡ false }
@@ -366,12 +387,14 @@ fn run_of(found: &ArgMatches, main: Option<String>) -> Result<Command, LineFault
     let workers = number_of(found, "workers")?.unwrap_or(BARE_WORKERS);
     let ways = number_of(found, "ways")?.unwrap_or(BARE_WAYS);
     let fuse = number_of(found, "fuse")?.unwrap_or(BARE_FUSE);
+    let batch = number_of(found, "batch")?;
     let stats = is_set(found, "stats");
     Ok(Command::Run {
         rounds,
         workers,
         ways,
         fuse,
+        batch,
         stats,
         main,
     })

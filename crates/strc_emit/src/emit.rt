@@ -2,11 +2,12 @@
 
 ghost use Rattle.std.specs.Prelude.{◌≡◌, IfOk};
 ghost use Rattle.strc_emit_program.specs.Programs.{IsProgramText};
-ghost use Rattle.strc_emit.specs.Emitting.{AreNetworkParts, IsEmitted, IsNetworkOf};
+ghost use Rattle.strc_emit.specs.Emitting.{IsEmitted, IsPlanNetwork};
+ghost use Rattle.strc_emit.specs.Networks.{HasParts};
 
 use crate::ports::rows;
+use crate::slots::total_items;
 use std::alloc::Global;
-use strc_emit_moves::arrays::total_room;
 use strc_emit_moves::places::Network;
 use strc_emit_program::program::program_text;
 use strc_lex_names::memory::NoMemory;
@@ -14,14 +15,15 @@ use strc_sched_rings::circuit::Circuit;
 use strc_stage_plan::plan::Plan;
 use thiserror::Error;
 
-/// How many items the arrays of a program's channels may have together.
+/// How many items the arrays of a program's channels and the slots of its filters may be together.
 pub const ITEM_LIMIT: u64 = 268_435_456;
 
 /// Why a plan has no C.
 #[derive(Clone, Copy, Debug, Error)]
 pub enum EmitError {
-    /// The arrays of its channels would have so many items, more than there may be.
-    #[error("the arrays of channels would have {items} items, more than 268,435,456")]
+    /// The arrays of its channels and the slots of its filters would be so many items, more than
+    /// there may be.
+    #[error("channels and filters would have {items} items, more than 268,435,456")]
     ArrayLimit { items: u64 },
     /// Memory was refused.
     #[error("out of memory for the text of the program")]
@@ -55,7 +57,8 @@ fn network_of<'a>(
     inputs: &'a [Vec<Option<usize>>],
     outputs: &'a [Vec<Option<usize>>],
 ) -> Network<'a>
-    ensures parts { AreNetworkParts plan.now result }
+    ensures parts { HasParts plan.now.graph plan.now.startup_counts plan.now.round_counts
+        plan.now.schedule result }
     ensures inputs { result.inputs.now ≡ inputs.now }
     ensures outputs { result.outputs.now ≡ outputs.now }
 {
@@ -73,10 +76,10 @@ fn network_of<'a>(
 
 // The C of a plan, which the network is of.
 fn program_of(alloc: Global, plan: &Plan, network: &Network<'_>) -> Result<Vec<u8>, EmitError>
-    requires { IsNetworkOf plan.now network.now }
+    requires { IsPlanNetwork plan.now network.now }
     ensures { IsEmitted plan.now result }
 {
-    let items = total_room(network);
+    let items = total_items(network);
     if items > ITEM_LIMIT {
         return Err(EmitError::ArrayLimit { items });
     }
@@ -85,7 +88,7 @@ fn program_of(alloc: Global, plan: &Plan, network: &Network<'_>) -> Result<Vec<u
 
 // The text of the program of a plan, which the network is of.
 fn text_of(alloc: Global, plan: &Plan, network: &Network<'_>) -> Result<Vec<u8>, NoMemory>
-    requires { IsNetworkOf plan.now network.now }
+    requires { IsPlanNetwork plan.now network.now }
     ensures { IfOk result (λ text. IsProgramText network.now plan.now.schedule text.items) }
 {
     program_text(alloc, plan.graph(), network, plan.schedule())

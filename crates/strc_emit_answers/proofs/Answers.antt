@@ -1,5 +1,5 @@
 -- The program of a plan's text ends as the stream equations say.
-use Rattle.std.proofs.Common.{◌≡◌, ℕ, ◌<◌, ◌≤◌, ◌^◌, List, sym, subst, length, arith, ap, ◌∙◌}
+use Rattle.std.proofs.Common.{◌≡◌, ℕ, ◌+◌, ◌<◌, ◌≤◌, ◌^◌, List, sym, subst, length, arith, ap, ◌∙◌}
 use Rattle.std.proofs.lemmas.Option.{slice_get-map}
 use Rattle.std.specs.Option.{option_map}
 use Rattle.std.specs.Prelude.{slice_get, Some, true, false}
@@ -18,9 +18,9 @@ use Rattle.strc_emit_moves.specs.Rooms.{total_room}
 use Rattle.strc_emit_moves.specs.declared.places.Network.{Network}
 use Rattle.strc_emit_program.specs.Programs.{AreTexts, IsNumbered}
 use Rattle.strc_emit_runs.specs.Running.{Program}
-use Rattle.strc_emit.specs.Emitting as emit
 use Rattle.strc_emit.specs.Emitting.{IsProgramOf}
-use Rattle.strc_emit_plans.specs.Networks.{IsNetworkOf}
+use Rattle.strc_emit.specs.Networks.{IsNetworkOf}
+use Rattle.strc_emit.specs.Slots.{total_slots}
 use Rattle.strc_emit_plans.specs.Programs.{IsPlannedProgram, IsProgramFor, AreFunctionsOf}
 use Rattle.strc_emit_plans.proofs.Answers.{programs_answer}
 use Rattle.strc_emit_answers.specs.Answers.{IsTextProgram, KeepSides, PlansAnswer, PlansSpell}
@@ -29,23 +29,6 @@ use Rattle.strc_emit_answers.specs.Spelled.{AreClosed, SpellsNodes}
 use Rattle.strc_emit_answers.proofs.Drained.{given_goes_on}
 use Rattle.strc_emit_answers.proofs.Fires.{fires_spell}
 use Rattle.strc_emit_answers.proofs.Spelled.{texts_spell}
-
--- the network of a plan is that of its graph
-network_is : (plan : PlanParts) (network : Network) → emit.IsNetworkOf plan network
-    → IsNetworkOf plan.graph plan.startup_counts plan.round_counts plan.schedule network
-network_is plan network is = record {
-  parts = record {
-    nodes = is.parts.nodes;
-    channels = is.parts.channels;
-    left = is.parts.left;
-    startup_is = is.parts.startup;
-    round_is = is.parts.round;
-  };
-  circuit = is.circuit;
-  is = is.is;
-  inputs = is.inputs;
-  outputs = is.outputs;
-}
 
 module _ (plan : PlanParts) (text : List ℕ) (written : IsProgramOf plan text) (program : Program)
     (of : IsTextProgram plan text written program) (known : AreKnown (graph_of plan)) where
@@ -77,15 +60,16 @@ module _ (plan : PlanParts) (text : List ℕ) (written : IsProgramOf plan text) 
   program_is : IsProgramFor plan.graph plan.startup_counts plan.round_counts plan.schedule program
   program_is = record {
     is = subst (IsNetworkOf plan.graph plan.startup_counts plan.round_counts plan.schedule)
-        (sym of.network) (network_is plan written.network written.is);
+        (sym of.network) written.is;
     functions = functions;
     small = subst (λ network. total_room network < 2 ^ 31) (sym of.network)
-        (below_int (total_room written.network) written.within);
+        (below_int (total_room written.network)
+        (total_slots written.network.nodes.now) written.within);
     fuel = of.fuel;
   }
     where
-      below_int : (items : ℕ) → items ≤ 268435456 → items < 2 ^ 31
-      below_int items within = omega (arith, within)
+      below_int : (items slots : ℕ) → items + slots ≤ 268435456 → items < 2 ^ 31
+      below_int items slots within = omega (arith, within)
 
   module _ (is : IsPlan plan) where
     -- its counts are the ones that its graph is planned with

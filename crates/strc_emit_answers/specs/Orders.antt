@@ -70,14 +70,18 @@ functions_done program when functions running =
     (statements_done program when functions.rest)
 
 -- the text of an order spells functions that do what the program does in it
-abbrev pub OrdersSpell : Type 0
-OrdersSpell =
-    (program : Program) (when : Phase) (order : List units.Unit.Unit)
-    → (functions : OrderFunctions)
+abbrev pub SpellsOrder : Program → Phase → List units.Unit.Unit → Type 0
+SpellsOrder program when order = (functions : OrderFunctions)
     × (order_text program.network when (length program.network.nodes.now) order
     ≡ order_spelled when functions)
     × ((running : Running) → order_done program when (calls_made program order) running
     ≡ functions_done program when functions running)
+
+-- so does that of any order
+abbrev pub OrdersSpell : Type 0
+OrdersSpell =
+    (program : Program) (when : Phase) (order : List units.Unit.Unit)
+    → SpellsOrder program when order
 
 -- two firings of node 3, and the move of the 2 items that are left in channel 5 behind 3
 abbrev pub OrderRow : Type 0

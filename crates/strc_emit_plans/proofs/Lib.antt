@@ -8,3 +8,4 @@ pub mod Rounds
 pub mod Finds
 pub mod Firsts
 pub mod Answers
+pub mod Declared

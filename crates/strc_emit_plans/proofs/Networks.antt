@@ -24,7 +24,7 @@ use Rattle.strc_emit_moves.specs.declared.places.Phase.{Phase}
 use Rattle.strc_emit_moves.specs.Places.{channel_at, entry_in, pops_of, pushes_of, taken_before}
 use Rattle.strc_emit_moves.specs.Places.{given_before, taken_at, given_at}
 use Rattle.strc_emit_runs.specs.Running.{Program, code_at}
-use Rattle.strc_emit_plans.specs.Networks.{IsNetworkOf}
+use Rattle.strc_emit.specs.Networks.{IsNetworkOf}
 
 abbrev pub end_of : (node port : ℕ) → End
 end_of node port = record { node = node; port = port }

@@ -32,7 +32,7 @@ use Rattle.strc_emit_moves.specs.Rooms.{moved, moved_after, first_port, source_o
 use Rattle.strc_emit_moves.specs.Rooms.{given_later, taken_first, room, sum_below, total_room}
 use Rattle.strc_emit_network.proofs.Taken.{moved_by_later}
 use Rattle.strc_emit_runs.specs.Running.{Program, rooms_in}
-use Rattle.strc_emit_plans.specs.Networks.{IsNetworkOf}
+use Rattle.strc_emit.specs.Networks.{IsNetworkOf}
 use Rattle.strc_emit_plans.specs.Programs.{KeepsSides, GoesSomewhere}
 use Rattle.strc_emit_plans.proofs.Networks.{pops_are, pushes_are, channel_there, channel_back}
 
@@ -62,7 +62,7 @@ idle_pushes (graphs.Copy copied fission) firing port alone sides idle =
 idle_pushes (graphs.Gather fission) firing port alone sides idle = absurd (true≢false alone)
 
 -- a part is no more than the sum
-below_sum : (amount : ℕ → ℕ) (count number : ℕ) → number < count
+pub below_sum : (amount : ℕ → ℕ) (count number : ℕ) → number < count
     → amount number ≤ sum_below amount count
 below_sum amount zero number lt = absurd (omega (arith, lt))
 below_sum amount (suc count) number lt = elim (cases_lt number count) [

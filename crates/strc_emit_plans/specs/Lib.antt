@@ -1,4 +1,3 @@
-pub mod Networks
 pub mod Calls
 pub mod Programs
 pub mod Finds

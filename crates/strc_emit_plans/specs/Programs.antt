@@ -21,7 +21,7 @@ use Rattle.strc_emit_runs.specs.Rounds.{AreRound, AreStartup}
 use Rattle.strc_emit_runs.specs.Works.{HasFilter}
 use Rattle.strc_emit_network.specs.Programs as network
 use Rattle.strc_emit_plans.specs.Calls.{calls_made}
-use Rattle.strc_emit_plans.specs.Networks.{IsNetworkOf}
+use Rattle.strc_emit.specs.Networks.{IsNetworkOf}
 
 -- a filter looks at items, and gives some, only on sides that have items
 pub record KeepsSides (filter : Filter) : Type 0 where

@@ -1,16 +1,17 @@
 // Takes a planned graph, with its counts and its greedy schedule, and a program of its network.
 // Gives laws on what the C of such a program means, each the contract of a public function with an
 // empty body, and no code: the schedule's calls are its firings (Lee and Messerschmitt 1987: a
-// periodic admissible sequential schedule), and the program is one of the graph.
-// A caller relies on `programs_answer`: the program ends with the answer of the stream equations.
+// periodic admissible sequential schedule), and the program is one of the graph. A caller relies on
+// `programs_answer`: the program ends with the answer of the stream equations.
 // Stands on strc_emit_network, whose programs these are, on strc_emit_program, which writes the
-// calls, on strc_sched_laws, which says what is planned, and on what these stand on.
+// calls, on strc_emit, which says what the network of a plan is, on strc_sched_laws, which says
+// what is planned, and on what these stand on.
 #![tactic(auto)]
 
 ghost use Rattle.strc_emit_plans.specs.Answers.{ProgramsAnswer, ProgramsMean};
 ghost use Rattle.strc_emit_plans.specs.Calls.{CallRow, OrdersAreCalled};
 ghost use Rattle.strc_emit_plans.specs.Finds.{SchedulesFind};
-ghost use Rattle.strc_emit_plans.specs.Firsts.{FirstsShow};
+ghost use Rattle.strc_emit_plans.specs.Firsts.{DeclaredIsFirst, DeclaredRow, FirstsShow};
 ghost use Rattle.strc_emit_plans.specs.Programs.{PlansMakePrograms, PlansMakeRounds};
 ghost use Rattle.strc_emit_plans.specs.Programs.{PlansMakeStartups};
 
@@ -45,6 +46,17 @@ pub fn plans_make_startups()
 /// Each firing of a planned graph's schedule finds its windows in the queues.
 pub fn schedules_find()
     ensures { SchedulesFind }
+{}
+
+/// What a program's arrays and fields are declared with is what they are to hold before its first
+/// firing.
+pub fn declared_is_first()
+    ensures { DeclaredIsFirst }
+{}
+
+/// An item that is enqueued.
+pub fn declared_row()
+    ensures { DeclaredRow }
 {}
 
 /// Before its first firing a program is where the machine over queues is.

@@ -112,8 +112,16 @@ helpers_text =
     fixed.STATE.now
     ++ (fixed.OPERATORS.now ++ (fixed.WORDS.now ++ codes "\n// The items of channels.\n"))
 
+-- start-up and so many rounds: the words before a round stay where it faults
+abbrev pub run_text : List ℕ
+run_text =
+    codes "// Start-up, and so many rounds.\nstatic APART void run(uint32_t rounds) {\n"
+    ++ codes "    start_up();\n    in_round = 1;\n"
+    ++ codes "    for (round_number = 0; round_number < rounds; round_number++) {\n"
+    ++ codes "        keep_words();\n        one_round();\n    }\n}\n"
+
 abbrev pub main_text : List ℕ
-main_text = fixed.INPUT.now ++ fixed.MAIN.now
+main_text = fixed.INPUT.now ++ fixed.SERVED.now ++ run_text ++ fixed.MAIN.now
 
 -- what is before the functions of nodes
 abbrev pub start_text : Network → List ℕ

@@ -184,6 +184,13 @@ write_tape(tape_numbered(number), 1);\n    \
 }\n\
 }\n\
 \n\
+// A round begins: the words that are there stay, should one of its firings fault.\n\
+static void keep_words(void) {\n    \
+for (int number = 0; number < TAPES; number++) {\n        \
+tape_numbered(number)->before = tape_numbered(number)->length;\n    \
+}\n\
+}\n\
+\n\
 // A firing faulted: the words of the rounds before are written, and where it was.\n\
 static _Noreturn APART void fault(int cause, uint32_t node, uint64_t firing) {\n    \
 for (int number = 0; number < TAPES; number++) {\n        \
@@ -298,8 +305,8 @@ put_number((int32_t)(negative ? -(int64_t)value : (int64_t)value));\n    \
 }\n\
 \n";
 
-/// The rounds of a run, and `main`.
-pub(crate) const MAIN: &[u8] = b"\
+/// How many rounds a run has where their number isn't given.
+pub(crate) const SERVED: &[u8] = b"\
 \n\
 // How many rounds the input serves.\n\
 static uint32_t rounds_served(void) {\n    \
@@ -312,18 +319,10 @@ return UINT32_MAX;\n    \
 }\n    \
 return (uint32_t)((got - before) / each);\n\
 }\n\
-\n\
-// Start-up, and so many rounds.\n\
-static APART void run(uint32_t rounds) {\n    \
-start_up();\n    \
-in_round = 1;\n    \
-for (round_number = 0; round_number < rounds; round_number++) {\n        \
-for (int number = 0; number < TAPES; number++) {\n            \
-tape_numbered(number)->before = tape_numbered(number)->length;\n        \
-}\n        \
-one_round();\n    \
-}\n\
-}\n\
+\n";
+
+/// `main`, and how it reads the number of rounds.
+pub(crate) const MAIN: &[u8] = b"\
 \n\
 // The words aren't those of the program.\n\
 static int usage(void) {\n    \

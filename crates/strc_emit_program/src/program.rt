@@ -6,7 +6,7 @@ ghost use Rattle.strc_elab_graph.specs.NodeView.{node_view};
 ghost use Rattle.strc_emit_text.specs.Texts.{texts_below};
 ghost use Rattle.strc_emit_program.specs.Programs as spec;
 
-use crate::fixed::{HEAD, INPUT, MAIN, OPERATORS, STATE, WORDS};
+use crate::fixed::{HEAD, INPUT, MAIN, OPERATORS, SERVED, STATE, WORDS};
 use crate::nodes::push_nodes;
 use crate::orders::push_order;
 use std::alloc::Global;
@@ -84,7 +84,25 @@ fn push_end(text: &mut Vec<u8>, network: &Network<'_>, schedule: &Schedule) -> R
 fn push_main(text: &mut Vec<u8>) -> Result<(), NoMemory>
     ensures { OnOk result (text.new.items ≡ text.old.items ++ spec.main_text) }
 {
-    push_pieces(text, &[Bytes(INPUT), Bytes(MAIN)])
+    push_pieces(text, &[Bytes(INPUT), Bytes(SERVED)])?;
+    push_run(text)?;
+    push_pieces(text, &[Bytes(MAIN)])
+}
+
+// Adds the function that does start-up and so many rounds.
+fn push_run(text: &mut Vec<u8>) -> Result<(), NoMemory>
+    ensures { OnOk result (text.new.items ≡ text.old.items ++ spec.run_text) }
+{
+    push_pieces(
+        text,
+        &[
+            Bytes(b"// Start-up, and so many rounds.\n"),
+            Bytes(b"static APART void run(uint32_t rounds) {\n"),
+            Bytes(b"    start_up();\n    in_round = 1;\n"),
+            Bytes(b"    for (round_number = 0; round_number < rounds; round_number++) {\n"),
+            Bytes(b"        keep_words();\n        one_round();\n    }\n}\n"),
+        ],
+    )
 }
 
 // Adds the numbers of a program: of its nodes, and of the items that it reads.

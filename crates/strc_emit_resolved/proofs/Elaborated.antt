@@ -29,10 +29,8 @@ instance_is name filter is = record {
 }
 
 pub instances_are_resolved : InstancesAreResolved
-instances_are_resolved graph whole all small = record {
-  resolved = λ filter of. instance_is of.1 filter
-      (instance_at graph.nodes of.0 (graphs.Filter of.1 filter)
-      (subst (AllByRecursion IsInstance) (nodes_are_codes whole.stream whole.closed.typed
-      ∙ sym whole.program.flat.nodes) all) of.2);
-  small = small;
-}
+instances_are_resolved graph whole all filter of =
+    instance_is of.1 filter
+    (instance_at graph.nodes of.0 (graphs.Filter of.1 filter)
+    (subst (AllByRecursion IsInstance) (nodes_are_codes whole.stream whole.closed.typed
+    ∙ sym whole.program.flat.nodes) all) of.2)

@@ -1,9 +1,9 @@
 -- The text of a plan of resolved filters spells a program.
-use Rattle.std.proofs.Common.{◌≡◌, ℕ, zero, suc, ◌<◌, ◌^◌, ◌==◌, true, false, cond, List}
+use Rattle.std.proofs.Common.{◌≡◌, ℕ, zero, suc, ◌+◌, ◌<◌, ◌≤◌, ◌^◌, ◌==◌, true, false, cond, List}
 use Rattle.std.proofs.Common.{length, Option, Some, None, refl, sym, ap, ◌∙◌, arith}
 use Rattle.std.proofs.lemmas.Bool.Decides.{nat_tests}
-use Rattle.std.proofs.lemmas.Option.{slice_get-map}
-use Rattle.std.specs.Option.{option_map}
+use Rattle.std.proofs.lemmas.Option.{slice_get-map, slice_get_within}
+use Rattle.std.specs.Option.{option_map, option_map_or}
 use Rattle.std.specs.Prelude.{slice_get, IfSome}
 use Rattle.strc_work_meaning.specs.Filters.{Filter, filter_of}
 use Rattle.strc_work_code.specs.Lowering.{slot_count}
@@ -12,14 +12,19 @@ use Rattle.strc_elab_graph.specs.Graphs.{node_name}
 use Rattle.strc_elab_graph.specs.NodeView.{node_view}
 use Rattle.strc_elab_graph.specs.declared.graph.Node.{Node}
 use Rattle.strc_elab_graph.specs.declared.graph.Node.TheVariants as nodes
+use Rattle.strc_elab_graph.specs.declared.instance.Instance.{Instance}
 use Rattle.strc_sched_laws.specs.Planned.{IsFilterOf, AreKnown}
 use Rattle.strc_stage_plan.specs.Plans.{PlanParts, graph_of}
 use Rattle.strc_emit_firings.specs.Known.{CallsFit}
 use Rattle.strc_emit_bodies.specs.Spelling.{FilterFunctions}
 use Rattle.strc_emit_bodies.specs.Bodies.{written_functions}
+use Rattle.strc_emit_moves.specs.Rooms.{total_room}
 use Rattle.strc_emit_moves.specs.declared.places.Network.{Network}
 use Rattle.strc_emit_program.specs.Programs.{AreTexts, IsNodeText, IsNumbered}
 use Rattle.strc_emit_runs.specs.Running.{Program}
+use Rattle.strc_emit.specs.Emitting.{IsProgramOf}
+use Rattle.strc_emit.specs.Slots.{node_slots, slots_at, total_slots}
+use Rattle.strc_emit_plans.proofs.Rooms.{below_sum}
 use Rattle.strc_emit_answers.specs.Spelled.{SpellsNode, SpellsNodes}
 use Rattle.strc_emit_answers.proofs.Answers.{plans_answer}
 use Rattle.strc_emit_resolved.specs.Programs.{AreResolved, SpellsProgram}
@@ -131,7 +136,28 @@ module _ (network : Network) (others : FilterFunctions) where
             );
           }
 
-module _ (plan : PlanParts) (resolved : AreResolved (graph_of plan)) where
+-- each filter has few slots, since all together are few
+module _ (plan : PlanParts) (text : List ℕ) (written : IsProgramOf plan text) where
+  few_slots : (number : ℕ) (instance : Instance)
+      → slice_get plan.graph.nodes number ≡ Some (nodes.Filter instance)
+      → slot_count (filter_of instance.code) < 2 ^ 31
+  few_slots number instance at =
+      let codes = written.network.nodes.now in
+      let there : slice_get codes number ≡ Some (nodes.Filter instance) =
+      ap (λ (l : List Node). slice_get l number) written.is.parts.nodes ∙ at in
+      let same : slots_at codes number ≡ slot_count (filter_of instance.code) =
+      ap (λ (o : Option Node). option_map_or node_slots o 0) there in
+      by_total (total_room written.network) (total_slots codes) (slots_at codes number)
+      (slot_count (filter_of instance.code)) same
+      (below_sum (slots_at codes) (length codes) number
+      (slice_get_within codes number (nodes.Filter instance) there)) written.within
+    where
+      by_total : (items slots own count : ℕ) → own ≡ count → own ≤ slots
+          → items + slots ≤ 268435456 → count < 2 ^ 31
+      by_total items slots own count same part within = omega (arith, same, part, within)
+
+module _ (plan : PlanParts) (text : List ℕ) (written : IsProgramOf plan text)
+    (resolved : AreResolved (graph_of plan)) where
   filter_fits : (number : ℕ) (code : Option Node)
       → slice_get plan.graph.nodes number ≡ code → FitsNode code
   filter_fits number None at = tt
@@ -151,13 +177,13 @@ module _ (plan : PlanParts) (resolved : AreResolved (graph_of plan)) where
             ∙ ap (option_map node_view) at,
       ) in (
         resolved_calls_fit (filter_of instance.code)
-            (resolved.resolved (filter_of instance.code) of),
-        resolved.small (filter_of instance.code) of,
+            (resolved (filter_of instance.code) of),
+        few_slots plan text written number instance at,
       )
 
-  known : AreKnown (graph_of plan)
+  pub known : AreKnown (graph_of plan)
   known filter of =
-      let is = resolved.resolved filter of in resolved_closed is.0 is.1 filter is.2
+      let is = resolved filter of in resolved_closed is.0 is.1 filter is.2
 
 pub texts_have_programs : TextsHavePrograms
 texts_have_programs plan text setting written resolved =
@@ -166,7 +192,7 @@ texts_have_programs plan text setting written resolved =
   where
     fit : (number : ℕ) → FitsNode (slice_get written.network.nodes.now number)
     fit number =
-        filter_fits plan resolved number (slice_get written.network.nodes.now number)
+        filter_fits plan text written resolved number (slice_get written.network.nodes.now number)
         (ap (λ (nodes : List Node). slice_get nodes number) (sym written.is.parts.nodes))
 
     by_shown : NodesShown written.network setting.others (length written.network.nodes.now)
@@ -208,7 +234,8 @@ resolved_plans_answer plan text setting is written resolved =
       0 = made.0;
       1 = made.1;
       2 = λ rounds first few input begins.
-          plans_answer plan text made.1.written made.0 rounds first is (known plan resolved)
-          (λ filter of. resolved_keep_sides filter (resolved.resolved filter of)) made.1.is few
+          plans_answer plan text made.1.written made.0 rounds first is
+          (known plan text written resolved)
+          (λ filter of. resolved_keep_sides filter (resolved filter of)) made.1.is few
           input begins;
     }

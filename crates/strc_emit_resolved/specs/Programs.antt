@@ -2,7 +2,6 @@
 use Rattle.std.specs.Prelude.{◌≡◌, ℕ, ◌<◌, ◌^◌, ℤ, List}
 use Rattle.strc_work_meaning.specs.Filters.{Filter}
 use Rattle.strc_work_meaning.specs.Firing.{turn_limit}
-use Rattle.strc_work_code.specs.Lowering.{slot_count}
 use Rattle.strc_elab_graph.specs.Graphs.{Graph}
 use Rattle.strc_elab_stream.specs.Flattening.{tree_of}
 use Rattle.strc_sched_laws.specs.Planned.{IsFilterOf}
@@ -16,10 +15,9 @@ use Rattle.strc_emit_plans.specs.Answers.{HasInput, IsAnswerOf, whole_done}
 use Rattle.strc_emit_answers.specs.Answers.{IsTextProgram}
 use Rattle.strc_emit_resolved.specs.Resolved.{IsResolved}
 
--- a graph's filters are resolved, and their slots are numbered within an int
-pub record AreResolved (graph : Graph) : Type 0 where
-  pub resolved : (filter : Filter) → IsFilterOf graph filter → IsResolved filter
-  pub small : (filter : Filter) → IsFilterOf graph filter → slot_count filter < 2 ^ 31
+-- a graph's filters are resolved
+abbrev pub AreResolved : Graph → Type 0
+AreResolved graph = (filter : Filter) → IsFilterOf graph filter → IsResolved filter
 
 -- what a program is run with: the numbers of its input, what unset locals hold, how often its loops
 -- may turn, and what stands for the functions of nodes that have none

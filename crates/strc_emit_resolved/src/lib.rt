@@ -38,8 +38,7 @@ pub fn resolved_row()
     ensures { ResolvedRow }
 {}
 
-/// The filters of a plan of an elaborated stream are resolved, where their slots are numbered
-/// within an int.
+/// The filters of a plan of an elaborated stream are resolved.
 pub fn instances_are_resolved()
     ensures { InstancesAreResolved }
 {}

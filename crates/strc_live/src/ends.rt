@@ -23,6 +23,8 @@ pub enum LiveEnd {
     SeveralTapes,
     /// A number of rounds was given, where the input says how many there are.
     RoundsGiven,
+    /// A number of rounds at a time was given, where each is run as soon as it can be.
+    BatchGiven,
 }
 
 impl LiveEnd {
@@ -51,6 +53,10 @@ pub(crate) fn tell_end<O: Sink>(
         LiveEnd::RoundsGiven => {
             tell_line(leaves_open, b"refused S9 RoundsGiven\n", output)?;
             Ok((Status::Refused, LiveEnd::RoundsGiven))
+        }
+        LiveEnd::BatchGiven => {
+            tell_line(leaves_open, b"refused S10 BatchGiven\n", output)?;
+            Ok((Status::Refused, LiveEnd::BatchGiven))
         }
     }
 }

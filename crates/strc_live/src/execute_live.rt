@@ -81,13 +81,14 @@ fn refused<O: Sink>(alloc: Global, placed: PlacedRefusal, output: &mut O) -> Liv
 }
 
 // Why a plan can't be run live, where it can't: other than one worker are asked for, or a number of
-// rounds, or its graph doesn't read the input, or it has several tapes.
+// rounds, or of rounds at a time, or its graph doesn't read the input, or it has several tapes.
 fn unfit(alloc: Global, plan: &Plan, command: &Command) -> Option<LiveEnd>
     ensures { result ≡ None → plan_reads plan.now ≡ true }
 {
     if let Command::Run {
         rounds,
         workers,
+        batch,
         ..
     } = command
     {
@@ -96,6 +97,9 @@ fn unfit(alloc: Global, plan: &Plan, command: &Command) -> Option<LiveEnd>
         }
         if rounds.is_some() {
             return Some(LiveEnd::RoundsGiven);
+        }
+        if batch.is_some() {
+            return Some(LiveEnd::BatchGiven);
         }
     }
     if !reads_input(plan) {

@@ -13,6 +13,8 @@ const SEVERAL_TAPES: &[u8] = b"error: a live run writes one tape, and this progr
 const ROUNDS_GIVEN: &[u8] =
     b"error: a live run has as many rounds as its input serves: leave --rounds out\n";
 
+const BATCH_GIVEN: &[u8] = b"error: a live run goes round by round: leave --batch out\n";
+
 /// What is wrong, and where in the file of this name; no bytes where there is nothing to say, or no
 /// memory to say it.
 pub fn live_message(
@@ -47,6 +49,7 @@ fn explanation(
         },
         LiveEnd::SeveralTapes => Ok(SEVERAL_TAPES.to_vec(alloc)?),
         LiveEnd::RoundsGiven => Ok(ROUNDS_GIVEN.to_vec(alloc)?),
+        LiveEnd::BatchGiven => Ok(BATCH_GIVEN.to_vec(alloc)?),
         _ => Ok(Vec::new(alloc)),
     }
 }

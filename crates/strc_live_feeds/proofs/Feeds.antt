@@ -1,5 +1,5 @@
 -- Live runs that are fed.
-use Rattle.std.proofs.Common.{◌≡◌, ℕ, suc, ◌+◌, ◌<◌, ◌^◌, ℤ, List, ◌++◌}
+use Rattle.std.proofs.Common.{◌≡◌, ℕ, suc, ◌+◌, ◌<◌, ◌^◌, ℤ, List, ◌++◌, length}
 use Rattle.std.proofs.Common.{Option, sym, ap, ◌∙◌, subst, arith}
 use Rattle.strc_work_meaning.specs.declared.word.Word.{Word}
 use Rattle.strc_sched_machine.specs.declared.machine.Stop.TheVariants as stop
@@ -29,13 +29,14 @@ counts_fit read_on left feed feeding few =
 pub round_fed : (plan : PlanParts) (first left : Option (List ℕ)) (read : List ℤ)
     (past : ℕ → List Word) (before filled after : LiveFeed) (result : Fed)
     → before.each ≡ each_of plan → filled.run ≡ before.run
+    → length filled.window.items ≡ each_of plan
     → HasPulled first left (read ++ filled.window.items) filled.numbers
     → IsWithin filled.numbers
     → after.numbers ≡ filled.numbers → after.each ≡ before.each → IsWired after.run
     → IsRoundOf plan read past filled result after
     → IsFedBy plan first left read past before result after
-round_fed plan first left read past before filled after fed.Round own same pulled within numbers
-    each wired is = record {
+round_fed plan first left read past before filled after fed.Round own same many pulled within
+    numbers each wired is = record {
       items = filled.window.items;
       now = is.0.now;
       fed = record {
@@ -52,23 +53,24 @@ round_fed plan first left read past before filled after fed.Round own same pulle
       done = is.2 ∙ ap (λ (r : LiveRun). r.done + 1) same;
     }
 round_fed plan first left read past before filled after (fed.Faulted node firing cause) own same
-    pulled within numbers each wired is = record {
+    many pulled within numbers each wired is = record {
       items = filled.window.items;
       pulled = subst (λ n. HasPulled first left (read ++ filled.window.items) n) (sym numbers)
           pulled;
+      many = many;
       stops = subst (λ (r : LiveRun). IsRoundStop plan read filled.window.items past r.done
           (stop.Fault node firing cause)) same is;
     }
-round_fed plan first left read past before filled after fed.NoMemory own same pulled within numbers
-    each wired is = tt
-round_fed plan first left read past before filled after fed.Ended own same pulled within numbers
-    each wired is = absurd is
-round_fed plan first left read past before filled after (fed.Wrong word) own same pulled within
+round_fed plan first left read past before filled after fed.NoMemory own same many pulled within
+    numbers each wired is = tt
+round_fed plan first left read past before filled after fed.Ended own same many pulled within
     numbers each wired is = absurd is
-round_fed plan first left read past before filled after fed.ReadFailed own same pulled within
+round_fed plan first left read past before filled after (fed.Wrong word) own same many pulled
+    within numbers each wired is = absurd is
+round_fed plan first left read past before filled after fed.ReadFailed own same many pulled
+    within numbers each wired is = absurd is
+round_fed plan first left read past before filled after fed.Limit own same many pulled within
     numbers each wired is = absurd is
-round_fed plan first left read past before filled after fed.Limit own same pulled within numbers
-    each wired is = absurd is
 
 pub keeps_feeding : (plan : PlanParts) (first left : Option (List ℕ)) (read : List ℤ)
     (past : ℕ → List Word) (before after : LiveFeed) (result : Fed)

@@ -63,11 +63,12 @@ pub record IsUnread (plan : PlanParts) (first left : Option (List ℕ)) (read : 
   pub pulled : HasPulledAll first left (read ++ waiting) after.numbers
   pub run : after.run ≡ before.run
 
--- a fault of a round over further numbers
+-- a fault of a round over as many further numbers as a round reads
 pub record IsFault (plan : PlanParts) (first left : Option (List ℕ)) (read : List ℤ)
     (past : ℕ → List Word) (before after : LiveFeed) (why : Stop) : Type 0 where
   pub items : List ℤ
   pub pulled : HasPulled first left (read ++ items) after.numbers
+  pub many : length items ≡ each_of plan
   pub stops : IsRoundStop plan read items past before.run.done why
 
 abbrev pub IsFedBy : PlanParts → (first left : Option (List ℕ)) → (read : List ℤ)

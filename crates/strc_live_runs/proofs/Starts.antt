@@ -20,11 +20,13 @@ use Rattle.strc_sched_rings.specs.Circuits.{circuit_view}
 use Rattle.strc_sched_machine.specs.Batches.{units_of}
 use Rattle.strc_sched_machine.specs.Running.{machine_view}
 use Rattle.strc_stage_plan.specs.Plans.{PlanParts, graph_of, transformed_of}
+use Rattle.strc_stage_steps.specs.Plans.{IsReadyFor}
 use Rattle.strc_stage_cut.specs.Startups.{HasEnded}
 use Rattle.strc_live_laws.specs.Live.{renewed}
 use Rattle.strc_live_plans.specs.Runs.{HasGoneOn, LivePlansBegin}
-use Rattle.strc_live_plans.specs.Startups.{HasBegun}
+use Rattle.strc_live_plans.specs.Startups.{CanBegin, HasBegun, StartupFaultsAnswer}
 use Rattle.strc_live_runs.specs.Runs.{HasSamePlace, IsWired}
+use Rattle.strc_live_runs.specs.Serving.{LiveStartsFault}
 use Rattle.strc_live_runs.specs.Starts.{CanBeginWith, HasStartedLive, IsFirstReader, IsOneTape}
 use Rattle.strc_live_runs.specs.declared.live_run.LiveRun.{LiveRun}
 
@@ -108,20 +110,29 @@ no_reader codes count node none all other text here alone =
 
 -- ---- the run
 
+can_begin : (plan : PlanParts) (items : List ℤ) (old : CircuitView) → CanBeginWith plan items
+    → IsReadyFor plan items old → CanBegin plan items old
+can_begin plan items old can ready =
+    let reader = reads_some (graph_of plan).nodes can.reads in record {
+      ready = ready;
+      node = reader.node;
+      text = reader.text;
+      reads = reader.there;
+      just = can.just;
+    }
+
+pub fault_law : StartupFaultsAnswer → LiveStartsFault
+fault_law law tree plan items more rounds node firing cause program can enough faulted =
+    law tree plan items more rounds faulted.old faulted.first node firing cause program
+    (can_begin plan items faulted.old can faulted.ready) enough faulted.is_first faulted.stopped
+
 begun_so : (plan : PlanParts) (items : List ℤ) (circuit : CircuitView) (started : MachineView)
     → CanBeginWith plan items → (ended : HasEnded plan items circuit started)
     → HasBegun plan items ended.old circuit started
-begun_so plan items circuit started can ended =
-    let reader = reads_some (graph_of plan).nodes can.reads in record {
-      can = record {
-        ready = ended.ready;
-        node = reader.node;
-        text = reader.text;
-        reads = reader.there;
-        just = can.just;
-      };
-      startup = ended.startup;
-    }
+begun_so plan items circuit started can ended = record {
+  can = can_begin plan items ended.old can ended.ready;
+  startup = ended.startup;
+}
 
 pub started_live : LivePlansBegin → (tree : trees.Stream NodeCode) (plan : PlanParts)
     (items : List ℤ) (fresh run : LiveRun) (words : List Word)

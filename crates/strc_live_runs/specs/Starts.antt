@@ -1,5 +1,5 @@
 -- The start-up of live runs in code.
-use Rattle.std.specs.Prelude.{◌≡◌, ℕ, ℤ, List, [], ◌∷◌, true, length, Some, slice_get}
+use Rattle.std.specs.Prelude.{◌≡◌, ◌≢◌, ◌≤◌, ℕ, ℤ, List, [], ◌∷◌, true, length, Some, slice_get}
 use Rattle.std.specs.List.{list_any}
 use Rattle.strc_work_meaning.specs.declared.word.Word.{Word}
 use Rattle.strc_elab_graph.specs.Graphs.{NodeCode, FileReader, reads_input}
@@ -24,9 +24,10 @@ IsFirstReader codes node =
     → ((one : ℕ) (own : List ℕ) → slice_get codes one ≡ Some (FileReader own) → one ≡ other)
     → node ≡ other
 
--- it gives all words, where just one node gives some
+-- it gives all words, where just one node gives some; else it is past all nodes
 abbrev pub IsOneTape : List NodeCode → (node : ℕ) → Type 0
-IsOneTape codes node = length (tape_nodes codes) ≡ 1 → tape_nodes codes ≡ node ∷ []
+IsOneTape codes node = (length (tape_nodes codes) ≡ 1 → tape_nodes codes ≡ node ∷ [])
+    × (length (tape_nodes codes) ≢ 1 → length codes ≤ node)
 
 -- start-up of a plan left a run that has written these words, and has done no round
 pub record HasStartedLive (plan : PlanParts) (items : List ℤ) (words : List Word) (run : LiveRun)

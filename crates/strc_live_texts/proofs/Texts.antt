@@ -1,6 +1,6 @@
 -- What is written live is what a run over the whole input writes.
 use Rattle.std.proofs.Common.{◌≡◌, ◌≤◌, ℕ, suc, Bool, true, false, List, [], ◌∷◌, ◌++◌, length}
-use Rattle.std.proofs.Common.{map, None, refl, sym, ap, ◌∙◌, subst, cond, arith}
+use Rattle.std.proofs.Common.{map, None, Option, refl, sym, ap, ◌∙◌, subst, cond, arith, nat_eq}
 use Rattle.strc_elab_dataflow.specs.Machine as flow
 use Rattle.strc_elab_dataflow.specs.Answer.{Outcome.Done, Outcome.StartupFault}
 use Rattle.strc_elab_dataflow.specs.Answer.{Outcome.RoundFault}
@@ -13,7 +13,7 @@ use Rattle.strc_sched_outcome.specs.declared.outcome.Outcome.{Outcome}
 use Rattle.strc_sched_outcome.specs.declared.outcome.Outcome.TheVariants as outcome
 use Rattle.strc_sched_outcome.specs.declared.outcome.Round.TheVariants as round
 use Rattle.strc_sched_outcome.specs.declared.outcome.Tape.{Tape}
-use Rattle.strc_sched.specs.Serving.{Serves}
+use Rattle.strc_sched.specs.Serving.{Serves, round_limit}
 use Rattle.strc_sched.specs.Tapes.{tapes_from}
 use Rattle.strc_stage.specs.Answers.{Answer, IsTold}
 use Rattle.strc_stage_plan.specs.Plans.{graph_of}
@@ -22,7 +22,8 @@ use Rattle.strc_cli_input.specs.Numbers.{error_of}
 use Rattle.strc_cli_input.proofs.Given.{given_is_so}
 use Rattle.strc_cli_output.specs.Output.{closed_tapes, closed_text, fault_line, outcome_text}
 use Rattle.strc_cli_output.specs.Output.{tapes_text, words_text}
-use Rattle.strc_live_texts.specs.Live.{LiveWritesTheSame, live_text, tape_words, words_from}
+use Rattle.strc_live_texts.specs.Live.{LiveWritesTheSame, last_word, live_text, tape_words}
+use Rattle.strc_live_texts.specs.Live.{words_from}
 
 -- ---- tapes
 
@@ -126,6 +127,17 @@ told_text names codes (RoundFault q stopped words) (outcome.Done tapes) few told
 told_text names codes (RoundFault q stopped words)
     (outcome.Fault node firing round.Startup cause tapes) few told = absurd told
 
+-- where no word is wrong, none ends the rounds
+pub no_last_word : (rounds : ℕ) → last_word rounds None ≡ None
+no_last_word rounds = either (nat_eq rounds round_limit)
+  where
+    none : Option ℕ
+    none = None
+
+    either : (b : Bool) → cond b none none ≡ none
+    either true = refl
+    either false = refl
+
 pub live_writes_the_same : LiveWritesTheSame
 live_writes_the_same tree plan bytes numbers rounds names ended whole serves is few =
     let same = (given_is_so bytes).0 numbers whole in record {
@@ -134,5 +146,6 @@ live_writes_the_same tree plan bytes numbers rounds names ended whole serves is 
       answer = is.answer;
       is_answer = subst (λ l. IsPlanAnswer tree plan l rounds is.answer) (sym same) is.is_answer;
       written = told_text names (graph_of plan).nodes is.answer ended few is.told
-          ∙ ap (live_text (graph_of plan).nodes is.answer) (sym (ap error_of whole));
+          ∙ ap (live_text (graph_of plan).nodes is.answer) (sym (no_last_word rounds)
+          ∙ ap (last_word rounds) (sym (ap error_of whole)));
     }

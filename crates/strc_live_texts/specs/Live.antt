@@ -1,7 +1,8 @@
 -- What a live run writes: the words of the program's one tape, and then, where the input didn't
 -- just end, one line.
 use Rattle.std.specs.Prelude.{◌≡◌, ◌≤◌, ℕ, ℤ, List, [], ◌∷◌, ◌++◌, length}
-use Rattle.std.specs.Prelude.{Option, Some, None, Ok, codes, pos, true, false}
+use Rattle.std.specs.Prelude.{Option, Some, None, Ok, codes, pos, true, false, nat_eq}
+use Rattle.std.specs.Prelude.{if◌then◌else◌}
 use Rattle.strc_elab_dataflow.specs.Answer as flow
 use Rattle.strc_elab_dataflow.specs.Answer.{Outcome.Done, Outcome.StartupFault}
 use Rattle.strc_elab_dataflow.specs.Answer.{Outcome.RoundFault}
@@ -12,7 +13,7 @@ use Rattle.strc_elab_graph.specs.Graphs.{NodeCode}
 use Rattle.strc_elab_graph.specs.Tapes.{tape_nodes}
 use Rattle.strc_sched_outcome.specs.declared.outcome.Outcome.{Outcome}
 use Rattle.strc_sched_outcome.specs.declared.outcome.Round.TheVariants as round
-use Rattle.strc_sched.specs.Serving.{Serves}
+use Rattle.strc_sched.specs.Serving.{Serves, round_limit}
 use Rattle.strc_stage.specs.Answers.{IsOutcomeOf}
 use Rattle.strc_stage_plan.specs.Plans.{PlanParts, graph_of}
 use Rattle.strc_stage_steps.specs.Plans.{IsPlanAnswer, need_of}
@@ -43,15 +44,35 @@ live_text codes (RoundFault q stopped words) wrong =
     closed_text (tape_words codes words)
     ++ fault_line stopped.node stopped.firing (round.At q) stopped.cause
 
--- a text is what is written of a tree's answer over the numbers of the input before its first wrong
--- word, for as many rounds as they serve
-pub record RunsLive (tree : trees.Stream NodeCode) (plan : PlanParts) (bytes : List ℕ)
-    (text : List ℕ) : Type 0 where
+-- the word that ends the rounds: the first one that writes no number, but none where as many rounds
+-- are done as there may be, after which nothing is read
+abbrev pub last_word : (rounds : ℕ) → (wrong : Option ℕ) → Option ℕ
+last_word rounds wrong = if nat_eq rounds round_limit then None else wrong
+
+-- the status of a run whose rounds are done: 2 where a wrong word ends them, else 0
+abbrev pub done_status : (wrong : Option ℕ) → ℕ
+done_status None = 0
+done_status (Some word) = 2
+
+-- that of an answer: 3 where a firing faulted
+abbrev pub live_status : flow.Outcome Cause Word → (wrong : Option ℕ) → ℕ
+live_status (Done words) wrong = done_status wrong
+live_status (StartupFault stopped) wrong = 3
+live_status (RoundFault q stopped words) wrong = 3
+
+-- a text is what is written of a tree's answer over these numbers, which come before this word that
+-- writes none, for as many rounds as they serve
+pub record RunsOver (tree : trees.Stream NodeCode) (plan : PlanParts) (numbers : List ℤ)
+    (wrong : Option ℕ) (text : List ℕ) : Type 0 where
   pub rounds : ℕ
-  pub serves : Serves (need_of plan) (length (given bytes)) rounds
+  pub serves : Serves (need_of plan) (length numbers) rounds
   pub answer : flow.Outcome Cause Word
-  pub is_answer : IsPlanAnswer tree plan (given bytes) rounds answer
-  pub written : text ≡ live_text (graph_of plan).nodes answer (wrong_word bytes)
+  pub is_answer : IsPlanAnswer tree plan numbers rounds answer
+  pub written : text ≡ live_text (graph_of plan).nodes answer (last_word rounds wrong)
+
+-- over the numbers of the input before its first wrong word
+abbrev pub RunsLive : trees.Stream NodeCode → PlanParts → (bytes text : List ℕ) → Type 0
+RunsLive tree plan bytes = RunsOver tree plan (given bytes) (wrong_word bytes)
 
 -- Where all words of the input write numbers, and there is one tape or none, what a run over the
 -- whole input writes of the rounds that it serves is what is written live.

@@ -15,12 +15,14 @@ fn reported(alloc: Global, line: &Line) -> Result<String, AllocError> {
             workers,
             ways,
             fuse,
+            batch,
             stats,
             main,
         } => {
             let rounds = number_of(alloc, *rounds)?;
+            let batch = number_of(alloc, *batch)?;
             format!(in alloc;
-                "run {file} {rounds} {workers} {ways} {fuse} {stats} {}",
+                "run {file} {rounds} {workers} {ways} {fuse} {batch} {stats} {}",
                 name_of(main)
             )
         }
@@ -66,21 +68,24 @@ fn words_of(alloc: Global, line: &str) -> Result<Vec<&str>, AllocError> {
 
 // A row a line: the words, and what is asked for.
 const UNDERSTOOD: &str = "\
-strc => run - 5 1 1 0 false -
-strc run a.str => run a.str - 1 1 0 false -
-strc run a.str --rounds=0 => run a.str 0 1 1 0 false -
-strc run --main M a.str => run a.str - 1 1 0 false M
-strc run a.str --workers 0 => run a.str - 0 1 0 false -
-strc run --workers=64 a.str => run a.str - 64 1 0 false -
-strc run a.str --ways 1 => run a.str - 1 1 0 false -
-strc run --ways=64 a.str => run a.str - 1 64 0 false -
-strc run a.str --fuse 0 => run a.str - 1 1 0 false -
-strc run --fuse=65536 a.str => run a.str - 1 1 65536 false -
-strc run a.str --stats => run a.str - 1 1 0 true -
-strc run --stats a.str --rounds 3 => run a.str 3 1 1 0 true -
-strc run --rounds 4294967295 a.str --main M => run a.str 4294967295 1 1 0 false M
-strc run --workers 4294967295 a.str --main M --rounds 2 => run a.str 2 4294967295 1 0 false M
-strc run --stats --fuse 7 --main M a.str --ways 3 --workers 2 --rounds 5 => run a.str 5 2 3 7 true M
+strc => run - 5 1 1 0 - false -
+strc run a.str => run a.str - 1 1 0 - false -
+strc run a.str --rounds=0 => run a.str 0 1 1 0 - false -
+strc run --main M a.str => run a.str - 1 1 0 - false M
+strc run a.str --workers 0 => run a.str - 0 1 0 - false -
+strc run --workers=64 a.str => run a.str - 64 1 0 - false -
+strc run a.str --ways 1 => run a.str - 1 1 0 - false -
+strc run --ways=64 a.str => run a.str - 1 64 0 - false -
+strc run a.str --fuse 0 => run a.str - 1 1 0 - false -
+strc run --fuse=65536 a.str => run a.str - 1 1 65536 - false -
+strc run a.str --stats => run a.str - 1 1 0 - true -
+strc run --stats a.str --rounds 3 => run a.str 3 1 1 0 - true -
+strc run --rounds 4294967295 a.str --main M => run a.str 4294967295 1 1 0 - false M
+strc run --workers 4294967295 a.str --main M --rounds 2 => run a.str 2 4294967295 1 0 - false M
+strc run --stats --fuse 7 --main M a --ways 3 --workers 2 --rounds 5 => run a 5 2 3 7 - true M
+strc run a.str --batch 64 => run a.str - 1 1 0 64 false -
+strc run --batch=1 a.str => run a.str - 1 1 0 1 false -
+strc run --batch=4096 a.str --rounds 9 => run a.str 9 1 1 0 4096 false -
 strc check a.str => check a.str -
 strc check a.str --main M => check a.str M
 strc plan a.str => plan a.str -
@@ -126,6 +131,12 @@ strc run a.str --fuse -1
 strc run a.str --fuse many
 strc run a.str --fuse
 strc run a.str --fuse 2 --fuse 2
+strc run a.str --batch 0
+strc run a.str --batch 4097
+strc run a.str --batch -1
+strc run a.str --batch many
+strc run a.str --batch
+strc run a.str --batch 2 --batch 2
 strc run a.str --stats=true
 strc run a.str --stats --stats
 strc run a.str --statistics

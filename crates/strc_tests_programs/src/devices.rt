@@ -24,6 +24,7 @@ fn rounds(count: u32) -> Command {
         workers: 1,
         ways: 1,
         fuse: 0,
+        batch: None,
         stats: false,
         main: None,
     }
@@ -255,6 +256,7 @@ fn takes_input_in_pieces<T: Threads + Wait + Sync>(
         workers: 1,
         ways: 1,
         fuse: 0,
+        batch: None,
         stats: false,
         main: None,
     };

@@ -3,10 +3,10 @@
 // Takes the files of the folder that it runs in. A case is a text NAME.str and its words NAME.args,
 // the command first; its input NAME.in, if it has one; what it writes, NAME.out; the status it ends
 // with, NAME.status, if that isn't 0; and what a person reads of it, NAME.message, if there is one.
-// Where a case's text is run by one worker, it is to come to the same by several, with copies and
-// with fused units. A case with a file NAME.pieces is broken at each place too: its text cut at
-// each byte, and devices that take so many bytes at a time failing at each call. A file
-// NAME.refused is for scripts/refuse-memory.
+// Where a case's text is run by one worker, it is to come to the same by several, with copies, with
+// fused units and by batches of rounds. A case with a file NAME.pieces is broken at each place too:
+// its text cut at each byte, and devices that take so many bytes at a time failing at each call. A
+// file NAME.refused is for scripts/refuse-memory.
 // Gives a line for each case that differs, and at the end how many do; and the same of the places
 // at which cases were broken, of devices that fail or take little at a time, and of runs whose
 // stages step in threads. There is no theorem here; the values are those of the language's rules.
@@ -25,8 +25,10 @@ use std::process::ExitCode;
 use std::sync::Wait;
 use std::thread::{Builder, Threads};
 use std::{fs, io, thread};
+use strc_cli::execute::Status;
 use strc_cli::explanation::execute_explained;
 use strc_cli_input::device::Told;
+use strc_cli_input::watched_input::WatchedInput;
 use strc_cli_words::line::{Command, LineFault};
 use strc_cli_words::words::command;
 use strc_run_links::{OpenGate, StageTimes};
@@ -35,13 +37,17 @@ use strc_run_links::{OpenGate, StageTimes};
 const WORDS: u8 = 1;
 
 // The words with which a case is run besides: it comes to the same.
-const RUNS: [&str; 6] = [
+const RUNS: [&str; 10] = [
     "--workers 2",
     "--workers 3 --fuse 2",
     "--workers 64 --fuse 8",
     "--fuse 1000",
     "--workers 3 --ways 2",
     "--workers 4 --ways 64 --fuse 2",
+    "--batch 1",
+    "--batch 2",
+    "--batch 3 --ways 2",
+    "--batch 7 --fuse 8",
 ];
 
 // The statuses of this program where not all cases are as they are to be.
@@ -172,18 +178,19 @@ fn compare<T: Threads + Wait + Sync>(
     is_same_otherwise(rt, threads, name, &given, &wanted)
 }
 
-/// Whether a case's words leave workers, copies and fusion open, and its text comes to a run: one
-/// that is refused is so before there are workers.
+/// Whether a case's words leave workers, copies, fusion and batches open, and its text comes to a
+/// run: one that is refused is so before there are workers.
 fn comes_to_a_run(given: &str, wanted: &Answer) -> bool {
     given.split_whitespace().next() == Some("run")
         && !given.contains("--workers")
         && !given.contains("--ways")
         && !given.contains("--fuse")
+        && !given.contains("--batch")
         && wanted.status != WORDS
         && !wanted.output.starts_with(b"refused E")
 }
 
-/// Whether several workers, copies and fused units come to the same.
+/// Whether several workers, copies, fused units and batches come to the same.
 fn is_same_otherwise<T: Threads + Wait + Sync>(
     rt: &HostRuntime,
     threads: &T,
@@ -290,7 +297,7 @@ fn answer_to<T: Threads + Wait + Sync>(
     command: &Command,
 ) -> io::Result<Answer> {
     let alloc = rt.alloc();
-    let mut input = Told::new(input);
+    let mut input = WatchedInput::new(alloc, Told::new(input));
     let mut output = Told::new(Vec::new(alloc));
     let file = format!(in alloc; "{name}.str")?;
     // The gate that measures lets each step through as the open one does.
@@ -318,11 +325,15 @@ fn answer_to<T: Threads + Wait + Sync>(
             &OpenGate,
         )
     };
+    let mut message = explained.message;
+    if let Ok(Status::Refused) = explained.result {
+        message.extend_from_slice(&input.wrong_word_line(alloc)?)?;
+    }
     match explained.result {
         Ok(status) => Ok(Answer {
             output: output.into_device(),
             status: status.number(),
-            message: explained.message,
+            message,
         }),
         // Devices in memory fail only where there is no more of it.
         Err(_) => Err(io::Error::from(ErrorKind::OutOfMemory)),

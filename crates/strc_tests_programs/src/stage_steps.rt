@@ -56,6 +56,7 @@ fn steps_in_threads<T: Threads + Wait + Sync>(
         workers,
         ways: 1,
         fuse: 0,
+        batch: None,
         stats: true,
         main: None,
     };

@@ -47,8 +47,9 @@ returns-in-Run-clause-answered g c =
     (λ (command : Command). IsAnswered text command (g.I.Source.remaining c.args.input.now)
     c.run_plan.result)
     (sym c.in-Run.is)
-    (c.run_plan.ensures.run text _ _ _ c.in-Run.stats
-    (subst (λ (choice : Choice). IsPlanOf text choice plan) (ap choice_of c.in-Run.is) is))
+    (rw (← c.sharing_of.ensures.workers)
+    (c.run_plan.ensures.run text _ _ _ c.in-Run.batch c.in-Run.stats
+    (subst (λ (choice : Choice). IsPlanOf text choice plan) (ap choice_of c.in-Run.is) is)))
 
 pub returns-in-Run-clause-unread : goal.returns-in-Run-clause-unread
 returns-in-Run-clause-unread g c =
@@ -63,7 +64,7 @@ returns-in-Run-clause-unread g c =
       | inr reads ↦ inr (subst (ReadsInput text) (sym c.in-Run.is)
           (reads_text text _ _ _ plan
           (subst (λ (choice : Choice). IsPlanOf text choice plan) (ap choice_of c.in-Run.is)
-          is) c.in-Run.rounds c.in-Run.workers false
+          is) c.in-Run.rounds c.in-Run.workers c.in-Run.batch false
           (g.I.Source.remaining c.args.input.now) reads))
     ]
 

@@ -8,18 +8,19 @@ use Rattle.strc_cli.proofs.PlanAnswers.{input_run, stopped_run}
 use Rattle.strc_cli.proofs.answer.run_plan.Goals as goal
 
 pub returns-in-Ok-clause-run : goal.returns-in-Ok-clause-run
-returns-in-Ok-clause-run g c = λ text main ways fuse stats is.
-    input_run text main ways fuse c.args.plan is c.args.rounds c.args.workers stats
+returns-in-Ok-clause-run g c = λ text main ways fuse batch stats is.
+    input_run text main ways fuse c.args.plan is c.args.rounds c.args.sharing.workers batch stats
     (g.I.Source.remaining c.args.input.now) c.plans_answer_texts.ensures
     c.in-Ok.numbers c.run_numbers.result c.in-Ok.ensures.numbers
     (subst (λ (input : List ℤ). IsRunAnswer c.args.plan input c.args.rounds
-    c.args.workers c.run_numbers.result) c.deref.ensures.value c.run_numbers.ensures)
+    c.args.sharing.workers c.run_numbers.result) c.deref.ensures.value c.run_numbers.ensures)
 
 pub returns-in-Err-clause-run : goal.returns-in-Err-clause-run
-returns-in-Err-clause-run g c = λ text main ways fuse stats is.
+returns-in-Err-clause-run g c = λ text main ways fuse batch stats is.
     subst (λ (result : Result Answer CliError).
-    IsAnswered text (command.Run c.args.rounds c.args.workers ways fuse stats main)
+    IsAnswered text (command.Run c.args.rounds c.args.sharing.workers ways fuse batch stats
+    main)
     (g.I.Source.remaining c.args.input.now) result)
     (sym c.unread.ensures)
-    (stopped_run text main ways fuse c.args.plan is c.args.rounds c.args.workers stats
+    (stopped_run text main ways fuse c.args.plan is c.args.rounds c.args.sharing.workers batch stats
     (g.I.Source.remaining c.args.input.now) c.in-Err.stop c.in-Err.ensures.numbers)

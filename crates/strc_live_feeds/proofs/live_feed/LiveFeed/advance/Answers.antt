@@ -18,7 +18,8 @@ returns-in-Ok-true-clause-fed g c plan first read past has =
       words = c.args.self.now.words;
     } in
     round_fed plan first (g.I.Source.remaining c.fill.new.input) read past c.args.self.now now
-    c.round.new.self c.round.result has.each refl filled.1 c.fill.ensures.within
+    c.round.new.self c.round.result has.each refl (filled.0 ∙ has.each) filled.1
+    c.fill.ensures.within
     c.round.ensures.numbers c.round.ensures.each c.round.ensures.wired
     (c.round.ensures.round plan read past has.live (filled.0 ∙ has.each))
 

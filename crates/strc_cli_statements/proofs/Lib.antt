@@ -1,0 +1,4 @@
+pub mod Lengths
+pub mod Peeked
+pub mod Uncounted
+pub mod Walks

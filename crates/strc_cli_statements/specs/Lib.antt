@@ -1,0 +1,3 @@
+pub mod OccurrencePlaces
+pub mod Occurrences
+pub mod Statements

@@ -1,0 +1,4 @@
+pub mod Estimates
+pub mod Filters
+pub mod Rows
+pub mod Tables
