@@ -17,6 +17,7 @@ use strc_cli::explanation::execute_explained;
 use strc_cli_input::device::{Sink, Source, Told};
 use strc_cli_input::watched_input::WatchedInput;
 use strc_cli_input::watched_output::WatchedOutput;
+use strc_cli_lint::lint::lint_message;
 use strc_cli_words::line::{Command, Line, LineFault};
 use strc_cli_words::words::{VERSION, asks_for_help, asks_for_version, command, usage_error};
 use strc_lex::program_text::{TextFault, read_text};
@@ -158,13 +159,25 @@ fn execute_text<T: Threads + Wait + Sync>(
         if let Ok(times) = StageTimes::new(rt.alloc(), rt) {
             let (status, plan) = explained_by(rt, threads, name, line, text, &times);
             if let Some(plan) = &plan {
-                let lines = times_message(rt.alloc(), plan, *workers, &times);
+                let is_done = status == DONE;
+                let lines = times_message(rt.alloc(), plan, *workers, is_done, &times);
                 let _ = rt.stderr().write_all(&lines);
             }
             return status;
         }
     }
-    explained_by(rt, threads, name, line, text, &OpenGate).0
+    let (status, _plan) = explained_by(rt, threads, name, line, text, &OpenGate);
+    if line.lint && status == DONE {
+        tell_doubts(rt, name, line, text);
+    }
+    status
+}
+
+// Tells a person what may be mistakes in a text that is accepted.
+fn tell_doubts(rt: &HostRuntime, name: &str, line: &Line, text: &[u8]) {
+    if let Ok(doubts) = lint_message(rt.alloc(), name, text, main_name(&line.command)) {
+        let _ = rt.stderr().write_all(&doubts);
+    }
 }
 
 // Executes it, each step of a stage by the gate, and tells a person what is wrong with it. What it

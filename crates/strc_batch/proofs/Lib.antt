@@ -1,9 +1,13 @@
+pub mod Apart
 pub mod Choices
+pub mod Finest
 pub mod Grouped
 pub mod Grouping
 pub mod Joined
 pub mod Made
 pub mod Parting
 pub mod Repeating
+pub mod Sharing
 pub mod Sizing
+pub mod Together
 pub mod UnitGroups

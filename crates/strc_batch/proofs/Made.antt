@@ -1,7 +1,9 @@
 -- A plan's batch, of its units and its sizes.
-use Rattle.std.proofs.Common.{◌≡◌, ◌⊎◌, ap, ◌∙◌, ℕ, suc, ◌-◌, ◌<◌, ◌^◌, List, length, arith}
+use Rattle.std.proofs.Common.{◌≡◌, ◌⊎◌, ap, ◌∙◌, ℕ, suc, ◌-◌, ◌<◌, ◌≤◌, ◌^◌, List, length, arith}
+use Rattle.std.specs.Prelude.{All}
 use Rattle.std.specs.List.{flat_map}
 use Rattle.strc_elab_dataflow.specs.FusedUnits.{firings_of}
+use Rattle.strc_sched_orders.specs.Buffers.{size_limit}
 use Rattle.strc_sched_orders.specs.declared.unit as unit_type
 use Rattle.strc_fuse.specs.Units.{round_units}
 use Rattle.strc_fuse.proofs.Counting.{firings_same}
@@ -23,8 +25,9 @@ module _ (plan : PlanParts) (rounds : ℕ) where
       → 0 < length (graph_of plan).nodes
       → round_units units ≡ flat_map (batch_units rounds) (plan_units plan)
       → IsShort (plan_listed plan) rounds → AreSizesFor plan rounds sizes
+      → All (λ size. size ≤ size_limit) sizes
       → IsBatchOf plan (record { units = units; sizes = sizes; rounds = rounds })
-  batch_made units sizes is some nodes made short sized =
+  batch_made units sizes is some nodes made short sized within =
       let units_are : round_units units ≡ batch_units_of rounds
       (group_units plan (group_bound plan)) (suc (last_group plan)) =
       made ∙ joined_so (batch_units rounds) (group_units plan (group_bound plan))
@@ -34,6 +37,7 @@ module _ (plan : PlanParts) (rounds : ℕ) where
         short = short;
         units_are = units_are;
         sizes_are = sized;
+        within = within;
         firings_are = firings_same units ∙ ap firings_of units_are
             ∙ plan_units_are_batch plan (group_bound plan) (last_group plan) rounds
             (bounds_cut plan (2 ^ 32 - 1) is (omega arith) nodes);

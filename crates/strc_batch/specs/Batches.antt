@@ -1,8 +1,10 @@
 -- A batch of rounds of a plan, between its finest groups (Sermulins, Thies, Rabbah and Amarasinghe
 -- 2005: execution scaling).
 use Rattle.std.specs.Prelude.{◌≡◌, ℕ, suc, ◌*◌, ◌<◌, ◌≤◌, ◌^◌, ◌⊎◌, List, [], ◌∷◌, map, Contains}
+use Rattle.std.specs.Prelude.{All}
 use Rattle.std.specs.List.{range_with_len}
 use Rattle.strc_elab_dataflow.specs.FusedUnits.{RoundUnit}
+use Rattle.strc_sched_orders.specs.Buffers.{size_limit}
 use Rattle.strc_sched_orders.specs.Greedy as order
 use Rattle.strc_sched_orders.specs.declared.unit as units
 use Rattle.strc_fuse.specs.Units.{round_units}
@@ -34,13 +36,14 @@ abbrev pub batching : PlanParts → (rounds : ℕ) → Batching
 batching plan rounds = batching_of plan (group_bound plan) (last_group plan) rounds
 
 -- A batch of a plan: each group's units so many times over, as one unit a group, and buffers that
--- are as large as these need.
+-- are as large as these need, within the limit of sizes.
 pub record IsBatchOf (plan : PlanParts) (batch : BatchParts) : Type 0 where
   pub some : 0 < batch.rounds
   pub short : IsShort (plan_listed plan) batch.rounds
   pub units_are : round_units batch.units ≡ batch_units_of batch.rounds
       (group_units plan (group_bound plan)) (suc (last_group plan))
   pub sizes_are : AreSizesFor plan batch.rounds batch.sizes
+  pub within : All (λ size. size ≤ size_limit) batch.sizes
   pub firings_are : order.firings_of batch.units ≡ order_of (batching plan batch.rounds)
 
 -- A group is one unit whose turns 32 bits would not count so many times over.

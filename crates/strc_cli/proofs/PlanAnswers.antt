@@ -89,6 +89,7 @@ module _ (text : List ℕ) (main : Option (String Global)) (ways fuse : ℕ) (pl
     )
     plan_answered (answer.Checked nodes channels) never = absurd never
     plan_answered (answer.Planned plan) never = absurd never
+    plan_answered (answer.Weighed plan) never = absurd never
     plan_answered (answer.Drawn picture) never = absurd never
     plan_answered (answer.Emitted program) never = absurd never
     plan_answered (answer.Stopped (stop.NotRun why)) unrun = record {

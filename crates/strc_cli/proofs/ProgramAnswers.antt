@@ -25,6 +25,7 @@ program_answers text main bytes plan (answer.Emitted program) is given = record 
 program_answers text main bytes plan (answer.Ran other outcome) is given = absurd given
 program_answers text main bytes plan (answer.Checked nodes channels) is given = absurd given
 program_answers text main bytes plan (answer.Planned other) is given = absurd given
+program_answers text main bytes plan (answer.Weighed other) is given = absurd given
 program_answers text main bytes plan (answer.Drawn picture) is given = absurd given
 program_answers text main bytes plan (answer.Stopped (stop.Refused placed)) is given =
     subst (λ (other : PlacedRefusal). IsTrueOf text (plain main) other.refusal) (sym given) tt
@@ -43,6 +44,7 @@ pub program_located : (text : List ℕ) (command : Command) (plan : PlanParts)
 program_located text command plan (answer.Ran other outcome) given = tt
 program_located text command plan (answer.Checked nodes channels) given = tt
 program_located text command plan (answer.Planned other) given = tt
+program_located text command plan (answer.Weighed other) given = tt
 program_located text command plan (answer.Drawn picture) given = tt
 program_located text command plan (answer.Emitted program) given = tt
 program_located text command plan (answer.Stopped (stop.Refused placed)) given =

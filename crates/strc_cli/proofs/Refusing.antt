@@ -33,6 +33,7 @@ pub drawn_unrefused : (text : List ℕ) (command : Command) → AcceptedOrRefuse
 drawn_unrefused text command law plan is (answer.Ran other outcome) drawn = tt
 drawn_unrefused text command law plan is (answer.Checked nodes channels) drawn = tt
 drawn_unrefused text command law plan is (answer.Planned other) drawn = tt
+drawn_unrefused text command law plan is (answer.Weighed other) drawn = tt
 drawn_unrefused text command law plan is (answer.Drawn picture) drawn = tt
 drawn_unrefused text command law plan is (answer.Emitted program) drawn = tt
 drawn_unrefused text command law plan is (answer.Stopped (stop.Refused placed)) drawn = IsLocated.Unread

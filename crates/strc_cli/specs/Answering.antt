@@ -1,6 +1,6 @@
 -- What is answered for a text, a command and an input, before anything is written.
 use Rattle.std.specs.Prelude.{◌≡◌, ℕ, ℤ, Bool, true, false, List, [], length, Option, Result, Ok}
-use Rattle.std.specs.Prelude.{Err, String, string_bytes, None, unwrap_or}
+use Rattle.std.specs.Prelude.{Err, String, string_bytes, None, unwrap_or, nat_lt, if◌then◌else◌}
 use Rattle.std.specs.declared.alloc.Global.{Global}
 use Rattle.std.specs.Option.{option_map}
 use Rattle.strc_cli_input.specs.ReadInput.{WritesNumbers}
@@ -14,6 +14,7 @@ use Rattle.strc_cli_output.specs.Pictures.{picture_text}
 use Rattle.strc_cli_output.specs.Stages.{plan_picture_text}
 use Rattle.strc_stage_plan.specs.Plans.{PlanParts, graph_of}
 use Rattle.strc_stage_plan.specs.Bounds.{stage_bounds}
+use Rattle.strc_stage_weights.specs.StageBounds.{weighed_bounds}
 use Rattle.strc_emit.specs.Emitting.{PassesItemLimit}
 use Rattle.strc_emit_texts.specs.Texts.{AnswersText}
 use Rattle.strc_run.specs.Accepts.{Accepts}
@@ -50,7 +51,7 @@ drawn_so ways fuse main = chosen main (unwrap_or ways 1) (unwrap_or fuse 0)
 abbrev pub choice_of : Command → Choice
 choice_of (command.Run rounds workers ways fuse batch stats main) = chosen main ways fuse
 choice_of (command.Check main) = plain main
-choice_of (command.Plan main) = plain main
+choice_of (command.Plan long main) = plain main
 choice_of (command.Emit main) = plain main
 choice_of (command.Graph workers ways fuse main) = drawn_so ways fuse main
 
@@ -105,6 +106,12 @@ pub record HasTooManyItems (text : List ℕ) (choice : Choice) (items : ℕ) : T
   pub planned : IsPlanOf text choice plan
   pub passes : PassesItemLimit plan items
 
+-- the bounds of the stages that so many workers run: those of even work, where there are nodes
+abbrev pub run_bounds : PlanParts → (workers : ℕ) → List ℕ
+run_bounds plan workers =
+    if nat_lt 0 (length plan.graph.nodes) then weighed_bounds plan workers
+    else stage_bounds plan.split.graph.outer_loops (round_units plan.split.schedule.round) workers
+
 -- the picture of what so many workers run: of a plan's graph after fission, in boxes of stages and
 -- of fused units
 abbrev pub stages_text : PlanParts → (workers : ℕ) → List ℕ
@@ -114,8 +121,7 @@ stages_text plan workers =
     plan_picture_text split.graph
     (startup_shares split.graph.nodes split.origins plan.startup_counts)
     (round_shares split.graph.nodes split.origins plan.round_counts)
-    split.schedule.sizes round
-    (stage_bounds split.graph.outer_loops (round_units round) workers)
+    split.schedule.sizes round (run_bounds plan workers)
 
 -- the text is accepted, and this is the picture of what so many workers run, which can run it
 pub record HasStagesPicture (text : List ℕ) (choice : Choice) (workers : ℕ) (picture : List ℕ)
@@ -133,7 +139,7 @@ IsPictureOf text workers ways fuse main picture =
     HasStagesPicture text (drawn_so ways fuse main) (unwrap_or workers 1) picture
 
 -- an answer is what a command asks of the text: the outcome of its rounds, with its plan, the size
--- of its graph, its plan, its C, or a picture
+-- of its graph, its plan, which is told with the work of its nodes or without, its C, or a picture
 abbrev pub IsAsked : List ℕ → Command → (bytes : Option (List ℕ)) → Answer → Type 0
 IsAsked text (command.Run rounds workers ways fuse batch stats main) bytes
     (answer.Ran plan outcome) =
@@ -141,7 +147,10 @@ IsAsked text (command.Run rounds workers ways fuse batch stats main) bytes
     × RunsText text (chosen main ways fuse) rounds workers bytes (Ok outcome)
 IsAsked text (command.Check main) bytes (answer.Checked nodes channels) =
     HasSize text (plain main) nodes channels
-IsAsked text (command.Plan main) bytes (answer.Planned plan) = IsPlanOf text (plain main) plan
+IsAsked text (command.Plan false main) bytes (answer.Planned plan) =
+    IsPlanOf text (plain main) plan
+IsAsked text (command.Plan true main) bytes (answer.Weighed plan) =
+    IsPlanOf text (plain main) plan
 IsAsked text (command.Emit main) bytes (answer.Emitted program) =
     HasProgram text (plain main) program.items
 IsAsked text (command.Graph workers ways fuse main) bytes (answer.Drawn picture) =

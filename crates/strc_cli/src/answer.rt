@@ -39,6 +39,8 @@ pub enum Answer {
     Checked { nodes: usize, channels: usize },
     /// Its plan.
     Planned(Plan),
+    /// Its plan, of which the work of its nodes is to be told too.
+    Weighed(Plan),
     /// The picture of its flat graph, or of what is run.
     Drawn(Vec<u8>),
     /// Its C.
@@ -97,7 +99,14 @@ pub fn answer_to<G: Gate<Stage>, R: Threads + Wait + Sync, I: Source>(
             nodes: plan.graph().nodes().len(),
             channels: plan.graph().channels().len(),
         }),
-        Command::Plan { main: _ } => Ok(Answer::Planned(plan)),
+        Command::Plan {
+            long: false,
+            main: _,
+        } => Ok(Answer::Planned(plan)),
+        Command::Plan {
+            long: true,
+            main: _,
+        } => Ok(Answer::Weighed(plan)),
         Command::Emit { main: _ } => Ok(emitted(alloc, &plan)),
         Command::Graph {
             workers: None,
@@ -226,8 +235,7 @@ fn ways_of(command: &Command) -> u32
     match command {
         Command::Run { ways, .. } => *ways,
         Command::Graph { ways, .. } => ways.unwrap_or(BARE_WAYS),
-        Command::Check { main: _ } | Command::Plan { main: _ } | Command::Emit { main: _ } =>
-            BARE_WAYS,
+        Command::Check { main: _ } | Command::Plan { .. } | Command::Emit { main: _ } => BARE_WAYS,
     }
 }
 
@@ -238,8 +246,7 @@ fn fuse_of(command: &Command) -> u32
     match command {
         Command::Run { fuse, .. } => *fuse,
         Command::Graph { fuse, .. } => fuse.unwrap_or(BARE_FUSE),
-        Command::Check { main: _ } | Command::Plan { main: _ } | Command::Emit { main: _ } =>
-            BARE_FUSE,
+        Command::Check { main: _ } | Command::Plan { .. } | Command::Emit { main: _ } => BARE_FUSE,
     }
 }
 
@@ -250,7 +257,7 @@ pub fn main_name(command: &Command) -> Option<&str>
     let main = match command {
         Command::Run { main, .. } => main,
         Command::Check { main } => main,
-        Command::Plan { main } => main,
+        Command::Plan { main, .. } => main,
         Command::Emit { main } => main,
         Command::Graph { main, .. } => main,
     };

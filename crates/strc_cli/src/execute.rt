@@ -14,6 +14,7 @@ use strc_cli_input::device::{Sink, Source};
 use strc_cli_output::outcome::outcome_text;
 use strc_cli_output::output::{check_text, plan_text, stop_text};
 use strc_cli_output::stop::Stop;
+use strc_cli_output::works::long_plan_text;
 use strc_cli_words::line::Command;
 use strc_run::refusal::Refusal;
 use strc_run::run::{Outcome, RunRefusal};
@@ -129,6 +130,7 @@ fn answer_text(alloc: Global, answer: &Answer) -> Result<Vec<u8>, AllocError>
         Answer::Ran(plan, outcome) => outcome_text(alloc, plan.graph(), outcome),
         Answer::Checked { nodes, channels } => check_text(alloc, *nodes, *channels),
         Answer::Planned(plan) => plan_text(alloc, plan),
+        Answer::Weighed(plan) => long_plan_text(alloc, plan),
         Answer::Drawn(picture) => picture.to_vec(alloc),
         Answer::Emitted(program) => program.to_vec(alloc),
         Answer::Stopped(stop) => stop_text(alloc, stop),
@@ -144,6 +146,7 @@ fn answer_status(answer: &Answer) -> Status
         Answer::Ran(_, Outcome::Fault { .. }) => Status::Fault,
         Answer::Checked { .. } => Status::Done,
         Answer::Planned(_) => Status::Done,
+        Answer::Weighed(_) => Status::Done,
         Answer::Drawn(_) => Status::Done,
         Answer::Emitted(_) => Status::Done,
         Answer::Stopped(Stop::Refused(placed)) => match &placed.refusal {

@@ -1,6 +1,6 @@
 // An input whose last bytes are kept, so that a person can be shown the word that is no number.
 
-ghost use Rattle.std.specs.Prelude.{◌≡◌};
+ghost use Rattle.std.specs.Prelude.{◌≡◌, ◌≤◌, length};
 
 use crate::device::Source;
 use crate::numbers::{Word, signed, with_byte};
@@ -135,14 +135,27 @@ fn lines_in(bytes: &[u8]) -> u64 {
 
 /// How a word begins that the bytes after these go on with, of the word that went on with these.
 fn push_begun(begun: &mut Vec<u8>, bytes: &[u8]) -> Result<(), AllocError> {
-    for byte in bytes {
-        if byte.is_ascii_whitespace() {
-            begun.clear();
-        } else {
-            push_shown(begun, *byte)?;
-        }
+    let begin = last_begin(bytes);
+    if begin > 0 {
+        begun.clear();
+    }
+    for byte in &bytes[begin..] {
+        push_shown(begun, *byte)?;
     }
     Ok(())
+}
+
+/// Where the last word of these bytes begins, behind the last white space; 0 without any.
+fn last_begin(bytes: &[u8]) -> usize
+    ensures { result ≤ length bytes.now }
+{
+    for past in 0..bytes.len() {
+        let at = bytes.len() - 1 - past;
+        if bytes[at].is_ascii_whitespace() {
+            return at + 1;
+        }
+    }
+    0
 }
 
 /// A byte more of a word that is shown; one that a terminal might obey stands as a question mark.

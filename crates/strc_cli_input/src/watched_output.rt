@@ -25,7 +25,9 @@ impl<O> WatchedOutput<O> {
     }
 
     /// Whether a write failed since nobody reads any more.
-    pub fn lost_reader(&self) -> bool {
+    pub fn lost_reader(&self) -> bool
+        ensures { result ≡ self.now.lost_reader }
+    {
         self.lost_reader
     }
 }

@@ -4,3 +4,4 @@ pub mod Pushing
 mod Boxes
 mod Shares
 mod Texts
+mod WorkLines

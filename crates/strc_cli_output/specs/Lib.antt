@@ -5,3 +5,4 @@ pub mod Parts
 pub mod Pictures
 pub mod Stages
 pub mod Lists
+pub mod Works

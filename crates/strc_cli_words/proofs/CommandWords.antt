@@ -67,7 +67,7 @@ within_known name rows (command.Graph workers ways fuse main) (inr (inl other)) 
 within_known name rows (command.Graph workers ways fuse main) (inr (inr (inl other))) is = cc
 within_known name rows (command.Graph workers ways fuse main) (inr (inr (inr (inl other)))) is = cc
 within_known name rows (command.Check main) known is = tt
-within_known name rows (command.Plan main) known is = tt
+within_known name rows (command.Plan long main) known is = tt
 within_known name rows (command.Emit main) known is = tt
 
 within : (met : Option (Text × List Row)) (line : Line) → IsCommand met → IsLineIn met line

@@ -357,9 +357,69 @@ default_graph : Each HasPlainDefault (shape_of graph_app).rules
 default_graph =
     (inl refl, (inl refl, (inl refl, (inl refl, (inl refl, (inl refl, tt))))))
 
--- the words of `check`, `plan` and `emit` have these rules
+plain_check : Each IsPlainRule (shape_of check_app).rules
+plain_check = (
+  takes_one _ refl refl (λ value passes. text_fits (is_text refl refl refl refl)),
+  (
+    inr (inl (record {
+      action = refl;
+      range = refl;
+      missing = refl;
+      text = is_text refl refl refl refl;
+    })),
+    (
+      takes_one _ refl refl (λ value passes. text_fits (is_text refl refl refl refl)),
+      (inr (inr refl), tt),
+    ),
+  ),
+)
+
+default_check : Each HasPlainDefault (shape_of check_app).rules
+default_check = (
+  inl refl,
+  (
+    inr (record {
+      value = codes "false";
+      is = refl;
+      text = is_text refl refl refl refl;
+    }),
+    (inl refl, (inl refl, tt)),
+  ),
+)
+
+plain_plan : Each IsPlainRule (shape_of plan_app).rules
+plain_plan = (
+  takes_one _ refl refl (λ value passes. text_fits (is_text refl refl refl refl)),
+  (
+    inr (inl (record {
+      action = refl;
+      range = refl;
+      missing = refl;
+      text = is_text refl refl refl refl;
+    })),
+    (
+      takes_one _ refl refl (λ value passes. text_fits (is_text refl refl refl refl)),
+      (inr (inr refl), tt),
+    ),
+  ),
+)
+
+default_plan : Each HasPlainDefault (shape_of plan_app).rules
+default_plan = (
+  inl refl,
+  (
+    inr (record {
+      value = codes "false";
+      is = refl;
+      text = is_text refl refl refl refl;
+    }),
+    (inl refl, (inl refl, tt)),
+  ),
+)
+
+-- the words of `emit`
 abbrev other_rules : List Rule
-other_rules = (shape_of check_app).rules
+other_rules = (shape_of emit_app).rules
 
 plain_other : Each IsPlainRule other_rules
 plain_other = (
@@ -584,7 +644,7 @@ checks words none =
     let check = shape_of check_app in
     let faultless = faultless_level check [] words false [] none in
     let rows = rows_after check.rules [] words in
-    let good = rows_good check plain_other default_other refl words faultless in
+    let good = rows_good check plain_check default_check refl words faultless in
     record {
       name = codes "check";
       rows = rows;
@@ -600,7 +660,7 @@ plans words none =
     let plan = shape_of plan_app in
     let faultless = faultless_level plan [] words false [] none in
     let rows = rows_after plan.rules [] words in
-    let good = rows_good plan plain_other default_other refl words faultless in
+    let good = rows_good plan plain_plan default_plan refl words faultless in
     record {
       name = codes "plan";
       rows = rows;

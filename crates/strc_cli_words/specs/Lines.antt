@@ -1,8 +1,8 @@
 -- What the words of a command line ask for. After the program's name they are
 -- `run FILE [--rounds N] [--workers N] [--ways N] [--fuse N] [--batch N] [--stats] [--live]
--- [--main NAME]`, `check FILE [--main NAME]`, `plan FILE [--main NAME]`, `emit FILE [--main NAME]`
--- or `graph FILE [--workers N] [--ways N] [--fuse N] [--main NAME]`, and are read as the crate
--- `clap` reads the words of a command: `strc_app` describes ours.
+-- [--main NAME]`, `check FILE [--lint] [--main NAME]`, `plan FILE [--long] [--main NAME]`, `emit
+-- FILE [--main NAME]` or `graph FILE [--workers N] [--ways N] [--fuse N] [--main NAME]`, and are
+-- read as the crate `clap` reads the words of a command: `strc_app` describes ours.
 use Rattle.std.specs.Prelude.{◌≡◌, ◌⊎◌, ◌↔◌, ℕ, ◌<◌, ◌≤◌, ◌^◌, pos, Bool, true, false, List, []}
 use Rattle.std.specs.Prelude.{Option, Some, None, IfSome, IsSome, option_map, string_bytes, codes}
 use Rattle.std.specs.Str.Parse.{IsNumeral, digits_value, without_leading_plus}
@@ -25,7 +25,7 @@ use Rattle.strc_cli_words.specs.declared.line.Command.TheVariants as command
 abbrev pub main_of : Command → Option (List ℕ)
 main_of (command.Run rounds workers ways fuse batch stats main) = option_map string_bytes main
 main_of (command.Check main) = option_map string_bytes main
-main_of (command.Plan main) = option_map string_bytes main
+main_of (command.Plan long main) = option_map string_bytes main
 main_of (command.Emit main) = option_map string_bytes main
 main_of (command.Graph workers ways fuse main) = option_map string_bytes main
 
@@ -33,7 +33,12 @@ main_of (command.Graph workers ways fuse main) = option_map string_bytes main
 -- nodes aren't split and whose units aren't fused, as many at a time as suit them
 abbrev pub default_line : Line
 default_line =
-    record { file = None; command = command.Run (Some 5) 1 1 0 None false None; live = false }
+    record {
+      file = None;
+      command = command.Run (Some 5) 1 1 0 None false None;
+      live = false;
+      lint = false;
+    }
 
 -- FILE, which has to be given
 abbrev pub file_rule : Rule
@@ -89,6 +94,14 @@ stats_rule =
 abbrev pub live_rule : Rule
 live_rule = record (new_rule (codes "live")) { long = Some (codes "live"); action = Some SetTrue }
 
+-- `--lint`
+abbrev pub lint_rule : Rule
+lint_rule = record (new_rule (codes "lint")) { long = Some (codes "lint"); action = Some SetTrue }
+
+-- `--long`
+abbrev pub long_rule : Rule
+long_rule = record (new_rule (codes "long")) { long = Some (codes "long"); action = Some SetTrue }
+
 -- `--main NAME`
 abbrev pub main_rule : Rule
 main_rule = record (new_rule (codes "main")) { long = Some (codes "main"); value_names = 1 }
@@ -111,11 +124,12 @@ run_app = with_rule (with_rule (with_rule batch_app stats_rule) live_rule) main_
 
 -- the words of `check`
 abbrev pub check_app : App
-check_app = with_rule (with_rule (new_app (codes "check")) file_rule) main_rule
+check_app =
+    with_rule (with_rule (with_rule (new_app (codes "check")) file_rule) lint_rule) main_rule
 
 -- the words of `plan`
 abbrev pub plan_app : App
-plan_app = with_rule (with_rule (new_app (codes "plan")) file_rule) main_rule
+plan_app = with_rule (with_rule (with_rule (new_app (codes "plan")) file_rule) long_rule) main_rule
 
 -- the words of `emit`
 abbrev pub emit_app : App
@@ -170,7 +184,7 @@ IsFlagOf text flag = (flag ≡ true) ↔ (text ≡ Some (codes "true"))
 -- this command is that of the name and of what was found for its options, whatever its main stream;
 -- `run` has a number of rounds, one of workers and one of copies, which are 1 where none is given,
 -- one of entries, which is 0 there, one of rounds at a time, where it is given, and a flag; `graph`
--- has those of workers, copies and entries, where they are given
+-- has those of workers, copies and entries, where they are given, and `plan` a flag
 abbrev pub IsCommandOf : Text → List Row → Command → Type 0
 IsCommandOf name rows (command.Run rounds workers ways fuse batch stats main) =
     (name ≡ codes "run") × IsNumberOf (one_of (codes "rounds") rows) rounds
@@ -179,7 +193,8 @@ IsCommandOf name rows (command.Run rounds workers ways fuse batch stats main) =
     × IsNumberOr 0 (one_of (codes "fuse") rows) fuse
     × IsNumberOf (one_of (codes "batch") rows) batch × IsFlagOf (one_of (codes "stats") rows) stats
 IsCommandOf name rows (command.Check main) = name ≡ codes "check"
-IsCommandOf name rows (command.Plan main) = name ≡ codes "plan"
+IsCommandOf name rows (command.Plan long main) =
+    (name ≡ codes "plan") × IsFlagOf (one_of (codes "long") rows) long
 IsCommandOf name rows (command.Emit main) = name ≡ codes "emit"
 IsCommandOf name rows (command.Graph workers ways fuse main) =
     (name ≡ codes "graph") × IsNumberOf (one_of (codes "workers") rows) workers
@@ -192,6 +207,7 @@ pub record IsLineOf (name : Text) (rows : List Row) (line : Line) : Type 0 where
   pub command : IsCommandOf name rows line.command
   pub main : main_of line.command ≡ first_of (codes "main") rows
   pub live : IsFlagOf (one_of (codes "live") rows) line.live
+  pub lint : IsFlagOf (one_of (codes "lint") rows) line.lint
 
 -- a subcommand was met, and the line has what was found for its arguments
 abbrev pub IsLineIn : Option (Text × List Row) → Line → Type 0

@@ -16,7 +16,7 @@ pub enum Command {
         /// Two neighbouring units become one where their list has at most so many entries, 0 to
         /// 65,536.
         fuse: u32,
-        /// How many rounds one worker runs at a time, 1 to 4,096, where a number is given.
+        /// How many rounds each worker runs at a time, 1 to 4,096, where a number is given.
         batch: Option<u32>,
         /// Is the time of each stage to be written to standard error?
         stats: bool,
@@ -31,6 +31,8 @@ pub enum Command {
     /// Tell how often each node fires before the first round and in a round, and how large the
     /// buffer of each channel is.
     Plan {
+        /// Is the work of each node to be told too?
+        long: bool,
         /// The name of the main stream, where one is given.
         main: Option<String>,
     },
@@ -61,6 +63,8 @@ pub struct Line {
     pub command: Command,
     /// Is a run to go on while its input comes?
     pub live: bool,
+    /// Is a person to be told what may be mistakes in a text that is accepted?
+    pub lint: bool,
 }
 
 /// Why a line of words was not understood.

@@ -10,10 +10,11 @@ ghost use Rattle.clap.specs.declared.builder.command.Command.TheViews.{out-Comma
 ghost use Rattle.strc_cli_words.specs.Lines.{AsksFor, HasNumbers, HasSharing, IsCommand, batch_app};
 ghost use Rattle.strc_cli_words.specs.Lines.{IsCommandOf, IsFlagOf, IsKnown, IsLineIn, IsNumber};
 ghost use Rattle.strc_cli_words.specs.Lines.{IsNumberOf, check_app, default_line, fault_by, faults};
-ghost use Rattle.strc_cli_words.specs.Lines.{file_rule, fuse_rule, graph_app, main_of, main_rule};
+ghost use Rattle.strc_cli_words.specs.Lines.{file_rule, fuse_rule, graph_app, long_rule, main_of};
+ghost use Rattle.strc_cli_words.specs.Lines.{main_rule};
 ghost use Rattle.strc_cli_words.specs.Lines.{number_rule, plan_app, rounds_app, rounds_rule};
 ghost use Rattle.strc_cli_words.specs.Lines.{batch_rule, emit_app, run_app};
-ghost use Rattle.strc_cli_words.specs.Lines.{live_rule, stats_rule, strc_app, ways_rule};
+ghost use Rattle.strc_cli_words.specs.Lines.{lint_rule, live_rule, stats_rule, strc_app, ways_rule};
 ghost use Rattle.strc_cli_words.specs.Lines.{with_sharing, workers_rule};
 
 use crate::line::{Command, Line, LineFault};
@@ -67,6 +68,7 @@ pub fn command<'a>(alloc: Global, words: &'a [&'a str]) -> Result<Line, LineFaul
                 main: None,
             },
             live: false,
+            lint: false,
         });
     }
     let Ok(parser) = parser(alloc) else {
@@ -183,21 +185,25 @@ fn with_sharing_options<'a>(
         .arg(fuse_option(alloc))
 }
 
-// The words `check FILE [--main NAME]`.
+// The words `check FILE [--lint] [--main NAME]`.
 fn check_command<'a>(alloc: Global) -> Result<clap::Command<'a>, AllocError>
     ensures app { IfOk result (λ check. app_of check ≡ check_app) }
     ensures local { IfOk result (λ check. (fields_of check).has_globals ≡ false) }
 {
-    main_command(alloc, "check", "Checks a StreamIt program")
+    file_command(alloc, "check", "Checks a StreamIt program")?
+        .arg(lint_option(alloc))?
+        .arg(main_option(alloc))
 }
 
-// The words `plan FILE [--main NAME]`.
+// The words `plan FILE [--long] [--main NAME]`.
 fn plan_command<'a>(alloc: Global) -> Result<clap::Command<'a>, AllocError>
     ensures app { IfOk result (λ plan. app_of plan ≡ plan_app) }
     ensures local { IfOk result (λ plan. (fields_of plan).has_globals ≡ false) }
 {
     let about = "Tells how often each node of a StreamIt program fires";
-    main_command(alloc, "plan", about)
+    file_command(alloc, "plan", about)?
+        .arg(long_option(alloc))?
+        .arg(main_option(alloc))
 }
 
 // The words `emit FILE [--main NAME]`.
@@ -293,7 +299,7 @@ fn batch_option<'a>(alloc: Global) -> Arg<'a>
 {
     number_option(alloc, "batch")
         .value_parser(value_parser!(u32).range(1..=i64::from(BATCH_LIMIT)))
-        .help("How many rounds one worker runs at a time, 1 to 4,096")
+        .help("How many rounds each worker runs at a time, 1 to 4,096")
 }
 
 fn stats_option<'a>(alloc: Global) -> Arg<'a>
@@ -314,6 +320,26 @@ fn live_option<'a>(alloc: Global) -> Arg<'a>
         .long("live")
         .action(ArgAction::SetTrue)
         .help("Run each round, and write its words, as soon as its input has come")
+}
+
+fn lint_option<'a>(alloc: Global) -> Arg<'a>
+    ensures rule { rule_of result ≡ lint_rule }
+    ensures local { result.global ≡ false }
+{
+    Arg::new(alloc, "lint")
+        .long("lint")
+        .action(ArgAction::SetTrue)
+        .help("Tell what may be mistakes in a program that is accepted")
+}
+
+fn long_option<'a>(alloc: Global) -> Arg<'a>
+    ensures rule { rule_of result ≡ long_rule }
+    ensures local { result.global ≡ false }
+{
+    Arg::new(alloc, "long")
+        .long("long")
+        .action(ArgAction::SetTrue)
+        .help("Tell the work of each node too, as it is estimated by the text")
 }
 
 fn number_option<'a>(alloc: Global, name: &'a str) -> Arg<'a>
@@ -355,6 +381,7 @@ fn line_of(alloc: Global, matches: &ArgMatches) -> Result<Line, LineFault>
             file: Some(file),
             command,
             live: is_set(found, "live"),
+            lint: is_set(found, "lint"),
         }),
         Err(fault) => Err(fault),
     }
@@ -369,7 +396,10 @@ fn command_of(name: &str, found: &ArgMatches, main: Option<String>) -> Result<Co
     match name {
         "run" => run_of(found, main),
         "check" => Ok(Command::Check { main }),
-        "plan" => Ok(Command::Plan { main }),
+        "plan" => Ok(Command::Plan {
+            long: is_set(found, "long"),
+            main,
+        }),
         "emit" => Ok(Command::Emit { main }),
         "graph" => graph_of(found, main),
         _ => Err(LineFault::Words),

@@ -47,7 +47,7 @@ module _ (text : List ℕ) (main : Option (List ℕ)) (plan : PlanParts) (c : Li
   plan_is : IsPlan plan
   plan_is = record is { whole = whole }
 
-  resolved : AreResolved (graph_of plan)
+  pub resolved : AreResolved (graph_of plan)
   unfolding whole
   resolved = instances_are_resolved (graph_of plan) whole sound.instances
 

@@ -1,1 +1,5 @@
-mod Begun
+pub mod Writing
+pub mod Steps
+pub mod Beginnings
+pub mod Reports
+pub mod Faults

@@ -1,5 +1,11 @@
 // How a live run ends, and the line that it ends with.
 
+ghost use Rattle.std.specs.Prelude.{◌≡◌, [], IfOk, false, if◌then◌else◌};
+ghost use Rattle.strc_cli.specs.Executes.{Writes, device_of};
+ghost use Rattle.strc_cli_output.specs.Output.{line_end};
+ghost use Rattle.strc_live.specs.Ends.{IsEndOf, TellsEnd, end_status, fault_of, last_text};
+ghost use Rattle.strc_live.specs.Ends.{no_memory};
+
 use std::alloc::{AllocError, Global};
 use strc_cli::answer::Answer;
 use strc_cli::execute::{CliError, Status, tell, write_all};
@@ -29,79 +35,166 @@ pub enum LiveEnd {
 
 impl LiveEnd {
     /// Memory ran out.
-    pub fn no_memory() -> LiveEnd {
+    pub fn no_memory() -> LiveEnd
+        ensures { result ≡ no_memory }
+    {
         LiveEnd::Stopped(Stop::NotRun(RunRefusal::NoMemory))
     }
 }
 
-/// Writes the line of an end, before it a line feed where the words leave their line open.
+/// An end that was told, and its status.
+#[derive(Drop)]
+pub(crate) struct ToldEnd {
+    pub(crate) status: Status,
+    pub(crate) end: LiveEnd,
+}
+
+/// Writes the line of an end, before it a line feed where the words leave their line open. Where
+/// memory runs out, it is the line that says so.
 pub(crate) fn tell_end<O: Sink>(
     alloc: Global,
     plan: &Plan,
     leaves_open: bool,
     end: LiveEnd,
     output: &mut O,
-) -> Result<(Status, LiveEnd), CliError> {
-    match end {
-        LiveEnd::Done => Ok((Status::Done, LiveEnd::Done)),
-        LiveEnd::Faulted(site) => tell_fault(alloc, plan, leaves_open, site, output),
-        LiveEnd::Stopped(stop) => tell_stop(alloc, leaves_open, stop, output),
-        LiveEnd::SeveralTapes => {
-            tell_line(leaves_open, b"refused S8 SeveralTapes\n", output)?;
-            Ok((Status::Refused, LiveEnd::SeveralTapes))
-        }
-        LiveEnd::RoundsGiven => {
-            tell_line(leaves_open, b"refused S9 RoundsGiven\n", output)?;
-            Ok((Status::Refused, LiveEnd::RoundsGiven))
-        }
-        LiveEnd::BatchGiven => {
-            tell_line(leaves_open, b"refused S10 BatchGiven\n", output)?;
-            Ok((Status::Refused, LiveEnd::BatchGiven))
-        }
+) -> Result<ToldEnd, CliError>
+    ensures { TellsEnd leaves_open end result
+        (device_of (O.contents output.old) (O.has_failed output.old))
+        (device_of (O.contents output.new) (O.has_failed output.new)) }
+{
+    if let LiveEnd::Done = end {
+        return Ok(told_done());
+    }
+    close_line(leaves_open, output)?;
+    tell_line(alloc, plan, end, output)
+}
+
+// Closes the line that the words leave open.
+fn close_line<O: Sink>(leaves_open: bool, output: &mut O) -> Result<(), CliError>
+    ensures { Writes (if leaves_open then line_end else []) result
+        (device_of (O.contents output.old) (O.has_failed output.old))
+        (device_of (O.contents output.new) (O.has_failed output.new)) }
+{
+    if leaves_open {
+        return write_all(output, b"\n");
+    }
+    Ok(())
+}
+
+// The end of a run of which just the words are written.
+fn told_done() -> ToldEnd
+    ensures { result ≡ record { status = Status.Done; end = LiveEnd.Done } }
+{
+    ToldEnd {
+        status: Status::Done,
+        end: LiveEnd::Done,
     }
 }
 
-// Writes a line, before it a line feed where the words leave their line open.
-fn tell_line<O: Sink>(leaves_open: bool, line: &[u8], output: &mut O) -> Result<(), CliError> {
-    if leaves_open {
-        write_all(output, b"\n")?;
+// Writes the line of an end, where it has one.
+fn tell_line<O: Sink>(
+    alloc: Global,
+    plan: &Plan,
+    end: LiveEnd,
+    output: &mut O,
+) -> Result<ToldEnd, CliError>
+    ensures { TellsEnd false end result
+        (device_of (O.contents output.old) (O.has_failed output.old))
+        (device_of (O.contents output.new) (O.has_failed output.new)) }
+{
+    match end {
+        LiveEnd::Done => Ok(told_done()),
+        LiveEnd::Faulted(site) => tell_fault(alloc, plan, site, output),
+        LiveEnd::Stopped(stop) => tell_stop(alloc, stop, output),
+        LiveEnd::SeveralTapes => {
+            tell_unfit(b"refused S8 SeveralTapes\n", LiveEnd::SeveralTapes, output)
+        }
+        LiveEnd::RoundsGiven => {
+            tell_unfit(b"refused S9 RoundsGiven\n", LiveEnd::RoundsGiven, output)
+        }
+        LiveEnd::BatchGiven => {
+            tell_unfit(b"refused S10 BatchGiven\n", LiveEnd::BatchGiven, output)
+        }
     }
-    write_all(output, line)
 }
 
 // Writes the line of a fault.
 fn tell_fault<O: Sink>(
     alloc: Global,
     plan: &Plan,
-    leaves_open: bool,
     site: FaultSite,
     output: &mut O,
-) -> Result<(Status, LiveEnd), CliError> {
+) -> Result<ToldEnd, CliError>
+    ensures { TellsEnd false (LiveEnd.Faulted site) result
+        (device_of (O.contents output.old) (O.has_failed output.old))
+        (device_of (O.contents output.new) (O.has_failed output.new)) }
+{
     let Ok(text) = fault_text(alloc, plan, site) else {
-        tell_line(leaves_open, b"refused S3 NoMemory\n", output)?;
-        return Ok((Status::NoMemory, LiveEnd::no_memory()));
+        return tell_no_memory(output);
     };
-    tell_line(leaves_open, &text, output)?;
-    Ok((Status::Fault, LiveEnd::Faulted(site)))
+    write_line(&text, Status::Fault, LiveEnd::Faulted(site), output)
 }
 
 // Writes the line of a refusal.
-fn tell_stop<O: Sink>(
-    alloc: Global,
-    leaves_open: bool,
-    stop: Stop,
-    output: &mut O,
-) -> Result<(Status, LiveEnd), CliError> {
+fn tell_stop<O: Sink>(alloc: Global, stop: Stop, output: &mut O) -> Result<ToldEnd, CliError>
+    ensures { TellsEnd false (LiveEnd.Stopped stop) result
+        (device_of (O.contents output.old) (O.has_failed output.old))
+        (device_of (O.contents output.new) (O.has_failed output.new)) }
+{
     let answer = Answer::Stopped(stop);
-    if leaves_open {
-        write_all(output, b"\n")?;
+    match tell(alloc, &answer, output) {
+        Ok(status) => Ok(ToldEnd {
+            status,
+            end: end_of(answer),
+        }),
+        Err(CliError::Memory) => tell_no_memory(output),
+        Err(CliError::Read) => Err(CliError::Read),
+        Err(CliError::Write) => Err(CliError::Write),
     }
-    let status = tell(alloc, &answer, output)?;
-    Ok((status, end_of(answer)))
+}
+
+// Writes the line of a run that can't be live.
+fn tell_unfit<O: Sink>(line: &[u8], end: LiveEnd, output: &mut O) -> Result<ToldEnd, CliError>
+    requires line { line.now ≡ last_text false end }
+    requires status { end_status end ≡ Status.Refused }
+    ensures { TellsEnd false end result
+        (device_of (O.contents output.old) (O.has_failed output.old))
+        (device_of (O.contents output.new) (O.has_failed output.new)) }
+{
+    write_line(line, Status::Refused, end, output)
+}
+
+// Writes that memory ran out, which takes none.
+fn tell_no_memory<O: Sink>(output: &mut O) -> Result<ToldEnd, CliError>
+    ensures { TellsEnd false no_memory result
+        (device_of (O.contents output.old) (O.has_failed output.old))
+        (device_of (O.contents output.new) (O.has_failed output.new)) }
+{
+    let end = LiveEnd::Stopped(Stop::NotRun(RunRefusal::NoMemory));
+    write_line(b"refused S3 NoMemory\n", Status::NoMemory, end, output)
+}
+
+// Writes a line, which is that of this end, with this status.
+fn write_line<O: Sink>(
+    line: &[u8],
+    status: Status,
+    end: LiveEnd,
+    output: &mut O,
+) -> Result<ToldEnd, CliError>
+    requires line { line.now ≡ last_text false end }
+    requires status { status ≡ end_status end }
+    ensures { TellsEnd false end result
+        (device_of (O.contents output.old) (O.has_failed output.old))
+        (device_of (O.contents output.new) (O.has_failed output.new)) }
+{
+    write_all(output, line)?;
+    Ok(ToldEnd { status, end })
 }
 
 /// The end of a run whose answer is a refusal.
-pub(crate) fn end_of(answer: Answer) -> LiveEnd {
+pub(crate) fn end_of(answer: Answer) -> LiveEnd
+    ensures { IsEndOf answer result }
+{
     match answer {
         Answer::Stopped(stop) => LiveEnd::Stopped(stop),
         _ => LiveEnd::Done,
@@ -109,7 +202,9 @@ pub(crate) fn end_of(answer: Answer) -> LiveEnd {
 }
 
 // The line of a fault.
-fn fault_text(alloc: Global, plan: &Plan, site: FaultSite) -> Result<Vec<u8>, AllocError> {
+fn fault_text(alloc: Global, plan: &Plan, site: FaultSite) -> Result<Vec<u8>, AllocError>
+    ensures { IfOk result (λ text. text.items ≡ fault_of site) }
+{
     let outcome = Outcome::Fault {
         node: site.node,
         firing: site.firing,

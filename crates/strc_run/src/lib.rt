@@ -17,6 +17,7 @@ mod rates;
 pub mod run;
 pub mod sharing;
 mod single_run;
+mod staged_run;
 mod transformations;
 
 pub use strc_run_links::{Gate, OpenGate, Rx, Tx, Worked, close, link, work};

@@ -7,11 +7,11 @@ ghost use Rattle.strc_run.specs.Rounds.{AreWorkers, IsRunOf, IsWorkedRefusal, pl
 
 use crate::sharing::{Batching, Sharing};
 use crate::single_run::run_single;
+use crate::staged_run::run_staged;
 use std::alloc::Global;
 use std::sync::Wait;
 use std::thread::Threads;
 use strc_run_links::Gate;
-use strc_run_workers::stage_rounds::run_stages;
 use strc_sched::plain::input_needed;
 use strc_sched::served_rounds;
 use strc_sched::served_rounds::rounds_served;
@@ -120,7 +120,7 @@ fn run_rounds<G: Gate<Stage>, R: Threads + Wait + Sync>(
     if sharing.workers == 1 || rounds == 0 || graph.nodes().is_empty() {
         return run_single(alloc, plan, input, rounds, sharing.batching);
     }
-    run_stages(rt, alloc, plan, input, rounds, sharing.workers, gate)
+    run_staged(rt, alloc, plan, input, rounds, sharing, gate)
 }
 
 /// Whether a node of the plan's graph reads the program's input.

@@ -5,11 +5,11 @@
 pub struct Sharing {
     /// 1 to 64 workers can run rounds.
     pub workers: u32,
-    /// How many rounds one worker runs at a time.
+    /// How many rounds each of them runs at a time.
     pub batching: Batching,
 }
 
-/// How many rounds a batch has, where one worker runs them.
+/// How many rounds a batch has.
 #[derive(Clone, Copy)]
 pub enum Batching {
     /// One: there are no batches.

@@ -37,13 +37,13 @@ module _ (plan : PlanParts) (input : List ℤ) (rounds : ℕ) (batch : BatchPart
     (nodes : 0 < length (graph_of plan).nodes) (is : IsBatchOf plan batch)
     (circuit : Circuit) (machine : Machine)
     (left : HasLeft plan batch.sizes input circuit machine) where
-  abbrev m : ℕ
+  abbrev pub m : ℕ
   m = rounds % batch.rounds
 
-  abbrev n : ℕ
+  abbrev pub n : ℕ
   n = rounds / batch.rounds
 
-  all_is : m + n * batch.rounds ≡ rounds
+  pub all_is : m + n * batch.rounds ≡ rounds
   all_is = omega (arith, is.some)
 
   cut : IsCut plan (group_bound plan) (suc (last_group plan))
@@ -61,7 +61,7 @@ module _ (plan : PlanParts) (input : List ℤ) (rounds : ℕ) (batch : BatchPart
     dealt = left.dealt.dealt;
   }
 
-  run : (tree : trees.Stream NodeCode) → IsProgram tree (graph_of plan)
+  pub run : (tree : trees.Stream NodeCode) → IsProgram tree (graph_of plan)
       → IsBatchedRun tree plan input (group_bound plan) (last_group plan) batch.rounds m n
       batch.sizes left.old (circuit_view circuit) (machine_view machine)
   run tree program = record {

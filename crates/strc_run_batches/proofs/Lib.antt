@@ -1,3 +1,5 @@
 pub mod Answering
 pub mod Endings
 pub mod Turns
+pub mod Resized
+pub mod Ringing

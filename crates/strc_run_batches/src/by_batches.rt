@@ -11,12 +11,11 @@ ghost use Rattle.strc_batch.specs.Batches.{IsBatchOf};
 ghost use Rattle.strc_run_batches.specs.Batched.{ComesByBatches, Faults};
 
 use crate::done_tapes::done_tapes;
-use crate::repeated_order::fired_through;
+use crate::repeated_order::after_rounds;
 use std::alloc::Global;
 use strc_batch::Batch;
 use strc_lex_names::memory::NoMemory;
 use strc_sched::plain::run_units;
-use strc_sched_machine::batches::order_of;
 use strc_sched_machine::machine::Machine;
 use strc_sched_outcome::outcome::Tape;
 use strc_sched_rings::circuit::Circuit;
@@ -72,8 +71,8 @@ fn run_rounds(
     ensures { IfOk result (ComesByBatches plan.now batch.now (circuit_view circuit.now)
         (machine_view machine) rounds) }
 {
-    let round = order_of(alloc, circuit, plan.transformed_schedule().round())?;
-    let Some(later) = fired_through(machine, circuit, &round, rounds % batch.rounds())? else {
+    let rest = rounds % batch.rounds();
+    let Some(later) = after_rounds(alloc, plan, circuit, machine, rest)? else {
         return Ok(None);
     };
     let nodes = plan.transformed_graph().nodes();

@@ -115,7 +115,7 @@ fn run_rounds<G: Gate<Stage>, R: Threads + Wait + Sync>(
 
 /// The collector of a ring after its last parcel. Where a worker ended before that, this thread
 /// lets happen what is left.
-fn collected<G: Gate<Stage>, R: Threads + Wait + Sync>(
+pub fn collected<G: Gate<Stage>, R: Threads + Wait + Sync>(
     rt: &R,
     alloc: Global,
     ring: Ring,

@@ -9,6 +9,7 @@ use Rattle.strc_stage_core.specs.States.{IsStart, first_core}
 use Rattle.strc_sched_outcome.specs.declared.outcome.Outcome.{Outcome}
 use Rattle.strc_sched_outcome.specs.declared.run_refusal.RunRefusal.{RunRefusal}
 use Rattle.strc_sched_laws.specs.Machine.{CircuitView, MachineView}
+use Rattle.strc_sched_orders.specs.declared.unit as units
 use Rattle.strc_stage_plan.specs.Plans.{PlanParts}
 use Rattle.strc_stage_steps.specs.Plans.{need_of}
 use Rattle.strc_stage_steps.specs.Seeing.{Ring}
@@ -20,7 +21,7 @@ use Rattle.strc_stage_core.specs.Parcels.{ParcelView}
 use Rattle.strc_stage_core.specs.declared.stop.Stop.{Stop}
 use Rattle.strc_stage_steps.specs.Steps.{StageState, stage_work}
 use Rattle.strc_stage_steps.specs.Pipes.{Beginning, IsStateOf}
-use Rattle.strc_stage_cut.specs.Launches.{IsLaunch, IsRingOf, start_of}
+use Rattle.strc_stage_cut.specs.Launches.{IsLaunch, IsRingOf, bounds_of, start_of}
 use Rattle.strc_stage_cut.specs.Startups.{HasFaulted}
 use Rattle.strc_stage_cut.specs.declared.stage_ring as launching
 use Rattle.strc_stage_cut.specs.declared.stage_ring.Launch.{Launch}
@@ -88,11 +89,12 @@ first_over start finished =
     ∙ hand_free start.stages
 
 -- Where there are no rounds nothing is left to happen.
-ended_ring : (plan : PlanParts) (circuit : CircuitView) (started : MachineView) (rounds workers : ℕ)
-    (first : launching.Ring.Ring) (ring : Ring StageParts CollectorParts) → rounds ≡ 0
-    → IsRingOf plan circuit started rounds workers first → IsFirstOf first ring
+ended_ring : (plan : PlanParts) (fired : List units.Unit.Unit) (bounds : List ℕ)
+    (circuit : CircuitView) (started : MachineView) (rounds : ℕ) (first : launching.Ring.Ring)
+    (ring : Ring StageParts CollectorParts) → rounds ≡ 0
+    → IsRingOf plan fired bounds circuit started rounds first → IsFirstOf first ring
     → is_over (core_seen ring) ≡ true
-ended_ring plan circuit started rounds workers first ring none is same =
+ended_ring plan fired bounds circuit started rounds first ring none is same =
     let beginning = is.beginning in
     ap is_over same
     ∙ first_over (start_of first) (by_done (start_of first).done refl beginning.is_start
@@ -107,7 +109,8 @@ pub ended_at_once : (plan : PlanParts) (input : List ℤ) (rounds workers : ℕ)
     (state : State) → rounds ≡ 0 → IsLaunch plan input rounds workers launch
     → StateOf launch state → HasEnded state
 ended_at_once plan input rounds workers (launched.Going first) (states.Going ring) none begun same =
-    ended_ring plan begun.circuit begun.started rounds workers first ring none begun.ring_is same
+    ended_ring plan plan.split.schedule.round (bounds_of plan workers) begun.circuit begun.started
+    rounds first ring none begun.ring_is same
 ended_at_once plan input rounds workers (launched.Faulted node firing cause)
     (states.Faulted at number why) none faulted same = tt
 ended_at_once plan input rounds workers (launched.Going first) (states.Faulted at number why) none

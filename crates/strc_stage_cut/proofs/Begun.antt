@@ -16,10 +16,9 @@ use Rattle.strc_stage_core.specs.Actors as actors
 use Rattle.strc_stage_core.specs.States.{AreFresh, IsFresh}
 use Rattle.strc_stage_core.specs.declared.stop.Stop.{Stop}
 use Rattle.strc_stage_core.specs.Parcels.{ParcelView, parcel, empty_load}
-use Rattle.strc_stage_plan.specs.Plans.{PlanParts, transformed_of}
 use Rattle.strc_stage_steps.specs.Beginnings.{IsBeginning, IsFree, IsStageOf, crosses}
 use Rattle.strc_stage_steps.specs.Beginnings.{is_under_way, rooms_of}
-use Rattle.strc_stage_steps.specs.Plans.{running_of}
+use Rattle.strc_stage_steps.specs.Runnings.{Running}
 use Rattle.strc_stage_steps.specs.Steps.{Gathered, StageState}
 use Rattle.strc_stage_steps.specs.Blocks as blocks
 use Rattle.strc_stage_steps.specs.Blocks.{IsFreeFor}
@@ -72,35 +71,35 @@ fresh_from rounds number done (own ∷ stages) each = (
 )
 
 -- what a ring is made of
-pub record AreParts (plan : PlanParts) (bounds : List ℕ) (circuit : CircuitView)
+pub record AreParts (running : Running) (bounds : List ℕ) (circuit : CircuitView)
     (started : MachineView) (rounds : ℕ) (stages : List StageParts) (free : List ParcelView)
     (words : Vec (Vec Word)) : Type 0 where
   pub each : length stages ≡ suc (last_of bounds)
-  pub made : AreMade plan bounds circuit started rounds stages
+  pub made : AreMade running bounds circuit started rounds stages
   pub free_each : length free ≡ 2 * length stages
   pub free_are : (first : StageParts) → slice_get stages 0 ≡ Some first
       → All (IsFreeFor first) free
   pub words_are : map vec_items words.items
-      ≡ map (words_at started.words) (tape_nodes (transformed_of plan).nodes)
+      ≡ map (words_at started.words) (tape_nodes running.graph.nodes)
 
-module _ (plan : PlanParts) (bounds : List ℕ) (circuit : CircuitView)
+module _ (running : Running) (bounds : List ℕ) (circuit : CircuitView)
     (started : MachineView) (rounds : ℕ) (stages : List StageParts) (free : List ParcelView)
     (words : Vec (Vec Word))
-    (parts : AreParts plan bounds circuit started rounds stages free words) where
+    (parts : AreParts running bounds circuit started rounds stages free words) where
   free_is : (first : StageParts) (own : ParcelView) → slice_get stages 0 ≡ Some first
       → IsFreeFor first own
-      → IsFree (running_of plan) (bound_in bounds) (last_of bounds) circuit started own
+      → IsFree running (bound_in bounds) (last_of bounds) circuit started own
   free_is first own there (inl is) =
       let made = parts.made 0 first there in
       inl (is
       ∙ ap (λ (rooms : List ℕ). parcel (empty_load rooms first.tape_count) None false)
       (ap (map blocks.room_of) made.state.blocks_are
       ∙ rooms_are (crosses (bound_in bounds) (last_of bounds))
-      (is_under_way (bound_in bounds) (last_of bounds) 0) (running_of plan)
-      (transformed_of plan).channels)
+      (is_under_way (bound_in bounds) (last_of bounds) 0) running
+      running.graph.channels)
       ∙ ap (λ (tapes : ℕ). parcel (empty_load
-      (rooms_of (crosses (bound_in bounds) (last_of bounds)) (running_of plan)
-      (transformed_of plan).channels) tapes)
+      (rooms_of (crosses (bound_in bounds) (last_of bounds)) running
+      running.graph.channels) tapes)
       None false) made.state.tape_count_is)
   free_is first own there (inr is) = inr is
 
@@ -110,7 +109,7 @@ module _ (plan : PlanParts) (bounds : List ℕ) (circuit : CircuitView)
   stages_long : length (map see stages) ≡ suc (last_of bounds)
   stages_long = length-map stages see ∙ parts.each
 
-  pub is_beginning : IsBeginning (running_of plan) (bound_in bounds) (last_of bounds) circuit
+  pub is_beginning : IsBeginning running (bound_in bounds) (last_of bounds) circuit
       started rounds (record {
         stages = map see stages;
         free = free;
@@ -136,7 +135,7 @@ module _ (plan : PlanParts) (bounds : List ℕ) (circuit : CircuitView)
         let image = image_of see stages number own there in
         let made = parts.made number image.own image.there in
         subst (λ (stage : actors.Stage StageState Stop).
-        IsStageOf (running_of plan) (bound_in bounds) (last_of bounds) circuit started number
+        IsStageOf running (bound_in bounds) (last_of bounds) circuit started number
         stage.inner × (stage.stop ≡ None))
         image.is (made.state, made.no_stop);
     free = λ number own there.

@@ -42,16 +42,16 @@ use Rattle.strc_stage_plan.specs.Plans.{IsPlan, PlanParts, graph_of, transformed
 use Rattle.strc_stage_plan.specs.Runs.{graph_after}
 use Rattle.strc_stage_steps.specs.Beginnings.{crosses}
 use Rattle.strc_stage_steps.specs.Plans.{IsCut, running_of}
-use Rattle.strc_stage_steps.specs.Runnings.{round_pushes}
+use Rattle.strc_stage_steps.specs.Runnings.{Running, round_pushes}
 use Rattle.strc_stage_steps.proofs.NewForward.{new_forward}
 use Rattle.strc_stage_steps.proofs.Plans.{fused_fission, graph_is, new, share, threshold}
 use Rattle.strc_stage_steps.proofs.Plans.{units, ways}
 use Rattle.strc_stage_steps.proofs.Staged.{split_cuts_are_staged}
 use Rattle.strc_stage_cut.specs.Bounds.{bound_in, last_of}
 use Rattle.strc_stage_cut.specs.Cuts.{IsCutAt}
-use Rattle.strc_stage_cut.specs.Links.{items_between}
+use Rattle.strc_stage_cut.specs.Links.{carried_between, items_between}
 
-size_limit_is : size_limit ≡ 16777216
+pub size_limit_is : size_limit ≡ 16777216
 size_limit_is = refl
 
 -- the items on a channel in a round, by how many it has when the round begins
@@ -95,16 +95,16 @@ rest_of segment b (suc more) =
 
 module _ (plan : PlanParts) (is : IsPlan plan) (bound : ℕ → ℕ) (last : ℕ)
     (is_cut : IsCut plan bound (suc last)) where
-  abbrev stage_of : ℕ → ℕ
+  abbrev pub stage_of : ℕ → ℕ
   stage_of = stage_within bound last
 
-  abbrev order_of : List ℕ
+  abbrev pub order_of : List ℕ
   order_of = firings_of (units plan is)
 
-  abbrev segment : ℕ → List ℕ
+  abbrev pub segment : ℕ → List ℕ
   segment = segment_of bound (firings_of (units plan is))
 
-  abbrev flow : flat.Graph NodeCode
+  abbrev pub flow : flat.Graph NodeCode
   flow = graph_after (tree_of is.whole.stream) (graph_of plan) plan.schedule plan.round_counts
       (ways plan is)
 
@@ -112,7 +112,7 @@ module _ (plan : PlanParts) (is : IsPlan plan) (bound : ℕ → ℕ) (last : ℕ
   new_cut = subst (λ (g : Graph). IsCutOf g (units plan is) bound (suc last)) (graph_is plan is)
       is_cut
 
-  staged : IsStaged flow stage_of segment (suc last) order_of
+  pub staged : IsStaged flow stage_of segment (suc last) order_of
   staged = split_cuts_are_staged is.whole.stream (graph_of plan) plan.schedule plan.round_counts
       (ways plan is) (threshold plan is) (units plan is) bound last (fused_fission plan is) new_cut
 
@@ -253,28 +253,37 @@ module _ (plan : PlanParts) (is : IsPlan plan) (bound : ℕ → ℕ) (last : ℕ
         )
 
 -- a channel that crosses carries all that its source pushes
-module _ (plan : PlanParts) (bounds : List ℕ) (channel : Channel) where
+module _ (running : Running) (bounds : List ℕ) (channel : Channel) where
   abbrev own_stage : ℕ → ℕ
   own_stage = stage_within (bound_in bounds) (last_of bounds)
 
-  pub between_is : (own_stage channel.source.node ≡ own_stage channel.target.node → ⊥)
-      → items_between plan bounds channel ≡ round_pushes (running_of plan) channel
-  between_is apart =
-      ap (λ (t : Bool). if not t then round_pushes (running_of plan) channel else 0)
+  pub crossing_is : (own_stage channel.source.node ≡ own_stage channel.target.node → ⊥)
+      → carried_between running.graph running.counts bounds channel ≡ round_pushes running channel
+  crossing_is apart =
+      ap (λ (t : Bool). if not t then round_pushes running channel else 0)
       (ne_eqb (own_stage channel.source.node) (own_stage channel.target.node) apart)
 
-  between_none : own_stage channel.source.node ≡ own_stage channel.target.node
-      → items_between plan bounds channel ≡ 0
-  between_none same =
-      ap (λ (t : Bool). if not t then round_pushes (running_of plan) channel else 0)
+  pub crossing_none : own_stage channel.source.node ≡ own_stage channel.target.node
+      → carried_between running.graph running.counts bounds channel ≡ 0
+  crossing_none same =
+      ap (λ (t : Bool). if not t then round_pushes running channel else 0)
       (eq-eqb (own_stage channel.source.node) (own_stage channel.target.node) same)
+
+-- in a round that is no more than there may be in its buffer
+module _ (plan : PlanParts) (bounds : List ℕ) (channel : Channel) where
+  abbrev stage_at : ℕ → ℕ
+  stage_at = stage_within (bound_in bounds) (last_of bounds)
+
+  pub between_is : (stage_at channel.source.node ≡ stage_at channel.target.node → ⊥)
+      → items_between plan bounds channel ≡ round_pushes (running_of plan) channel
+  between_is = crossing_is (running_of plan) bounds channel
 
   pub carried_within : IsCutAt plan bounds → (number : ℕ)
       → slice_get (transformed_of plan).channels number ≡ Some channel
       → items_between plan bounds channel ≤ size_limit
   carried_within at number there =
-      elim (cases_eq (own_stage channel.source.node) (own_stage channel.target.node)) [
-        | inl same ↦ omega (arith, between_none same)
+      elim (cases_eq (stage_at channel.source.node) (stage_at channel.target.node)) [
+        | inl same ↦ omega (arith, crossing_none (running_of plan) bounds channel same)
         | inr apart ↦ omega (
           arith,
           between_is apart,

@@ -11,7 +11,7 @@ use Rattle.strc_stage_steps.specs.Beginnings.{crosses, crossings_from, entering_
 use Rattle.strc_stage_steps.specs.Beginnings.{blocks_before, blocks_of, is_under_way}
 use Rattle.strc_stage_steps.specs.Beginnings.{ends_in, begins_in, rooms_of, tapes_from}
 use Rattle.strc_stage_steps.specs.CrossingBlocks.{raised}
-use Rattle.strc_stage_steps.specs.Plans.{IsCut, running_of}
+use Rattle.strc_stage_steps.specs.Plans.{IsCut}
 use Rattle.strc_stage_steps.specs.Runnings.{Running, round_pushes}
 use Rattle.strc_stage_steps.specs.declared.crossing_items.Crossing.{Crossing}
 use Rattle.strc_stage_steps.specs.declared.crossing_items.TapeOf.{TapeOf}
@@ -21,6 +21,7 @@ use Rattle.strc_stage_steps.specs.declared.stage.Block.{Block}
 use Rattle.strc_stage_cut.specs.Bounds.{bound_in, last_of}
 use Rattle.strc_stage_cut.specs.Links.{link_of, links_of, crossings_in, blocks_in}
 use Rattle.strc_stage_cut.specs.Tapes.{tapes_in}
+use Rattle.strc_stage_cut.specs.declared.links.Link.{Link}
 use Rattle.strc_stage_cut.specs.declared.links.Side.TheVariants as side
 use Rattle.strc_stage_cut.proofs.Ranges.{same_test}
 
@@ -51,60 +52,66 @@ room_step : (cross : Bool) (pushes : ℕ) (held : Bool) (own : List Block) (room
 room_step true pushes held own rooms same = ap (λ (l : List ℕ). pushes ∷ l) same
 room_step false pushes held own rooms same = same
 
-module _ (plan : PlanParts) (bounds : List ℕ) (stage : ℕ) where
+module _ (running : Running) (bounds : List ℕ) (stage : ℕ) where
+  abbrev join : Channel → Link
+  join = link_of running.graph running.counts bounds
+
+  abbrev links : List Link
+  links = links_of running.graph running.counts bounds
+
   entering_from : (block ring : ℕ) (channels : List Channel)
-      → crossings_in side.Entering stage block ring (map (link_of plan bounds) channels)
+      → crossings_in side.Entering stage block ring (map join channels)
       ≡ crossings_from (bound_in bounds) (last_of bounds) block ring
       (ends_in (bound_in bounds) (last_of bounds) stage) channels
   entering_from block ring [] = refl
   entering_from block ring (channel ∷ channels) =
       crossing_step (crosses (bound_in bounds) (last_of bounds) channel)
       (ends_in (bound_in bounds) (last_of bounds) stage channel) block ring
-      (λ b. crossings_in side.Entering stage b (suc ring) (map (link_of plan bounds) channels))
+      (λ b. crossings_in side.Entering stage b (suc ring) (map join channels))
       (λ b. crossings_from (bound_in bounds) (last_of bounds) b (suc ring)
       (ends_in (bound_in bounds) (last_of bounds) stage) channels)
       (λ b. entering_from b (suc ring) channels)
 
   leaving_from : (block ring : ℕ) (channels : List Channel)
-      → crossings_in side.Leaving stage block ring (map (link_of plan bounds) channels)
+      → crossings_in side.Leaving stage block ring (map join channels)
       ≡ crossings_from (bound_in bounds) (last_of bounds) block ring
       (begins_in (bound_in bounds) (last_of bounds) stage) channels
   leaving_from block ring [] = refl
   leaving_from block ring (channel ∷ channels) =
       crossing_step (crosses (bound_in bounds) (last_of bounds) channel)
       (begins_in (bound_in bounds) (last_of bounds) stage channel) block ring
-      (λ b. crossings_in side.Leaving stage b (suc ring) (map (link_of plan bounds) channels))
+      (λ b. crossings_in side.Leaving stage b (suc ring) (map join channels))
       (λ b. crossings_from (bound_in bounds) (last_of bounds) b (suc ring)
       (begins_in (bound_in bounds) (last_of bounds) stage) channels)
       (λ b. leaving_from b (suc ring) channels)
 
-  pub entering_is : crossings_in side.Entering stage 0 0 (links_of plan bounds)
-      ≡ entering_at (bound_in bounds) (last_of bounds) stage (transformed_of plan).channels
-  entering_is = entering_from 0 0 (transformed_of plan).channels
+  pub entering_is : crossings_in side.Entering stage 0 0 links
+      ≡ entering_at (bound_in bounds) (last_of bounds) stage running.graph.channels
+  entering_is = entering_from 0 0 running.graph.channels
 
-  pub leaving_is : crossings_in side.Leaving stage 0 0 (links_of plan bounds)
-      ≡ leaving_at (bound_in bounds) (last_of bounds) stage (transformed_of plan).channels
-  leaving_is = leaving_from 0 0 (transformed_of plan).channels
+  pub leaving_is : crossings_in side.Leaving stage 0 0 links
+      ≡ leaving_at (bound_in bounds) (last_of bounds) stage running.graph.channels
+  leaving_is = leaving_from 0 0 running.graph.channels
 
   -- ---- blocks
 
   blocks_from : (channels : List Channel)
-      → blocks_in stage (map (link_of plan bounds) channels)
+      → blocks_in stage (map join channels)
       ≡ blocks_of (crosses (bound_in bounds) (last_of bounds))
-      (is_under_way (bound_in bounds) (last_of bounds) stage) (running_of plan) channels
+      (is_under_way (bound_in bounds) (last_of bounds) stage) running channels
   blocks_from [] = refl
   blocks_from (channel ∷ channels) =
       block_step (crosses (bound_in bounds) (last_of bounds) channel)
-      (round_pushes (running_of plan) channel)
+      (round_pushes running channel)
       (is_under_way (bound_in bounds) (last_of bounds) stage channel)
-      (blocks_in stage (map (link_of plan bounds) channels))
+      (blocks_in stage (map join channels))
       (blocks_of (crosses (bound_in bounds) (last_of bounds))
-      (is_under_way (bound_in bounds) (last_of bounds) stage) (running_of plan) channels)
+      (is_under_way (bound_in bounds) (last_of bounds) stage) running channels)
       (blocks_from channels)
 
-  pub blocks_are : blocks_in stage (links_of plan bounds)
-      ≡ blocks_before (running_of plan) (bound_in bounds) (last_of bounds) stage
-  blocks_are = blocks_from (transformed_of plan).channels
+  pub blocks_are : blocks_in stage links
+      ≡ blocks_before running (bound_in bounds) (last_of bounds) stage
+  blocks_are = blocks_from running.graph.channels
 
 -- the rooms of the blocks of parcels
 module _ (crossing under_way : Channel → Bool) (running : Running) where

@@ -1,8 +1,9 @@
 -- The bounds that workers share are a cut.
 use Rattle.std.proofs.Common.{◌≡◌, refl, sym, ap, ◌∙◌, subst, ℕ, suc, ◌<◌, ◌≤◌, List, []}
 use Rattle.std.proofs.Common.{◌∷◌, length, map, arith}
-use Rattle.strc_elab_graph.specs.Graphs.{Channel}
+use Rattle.strc_elab_graph.specs.Graphs.{Channel, Graph}
 use Rattle.strc_elab_dataflow.specs.FusedUnits.{RoundUnit}
+use Rattle.strc_sched_orders.specs.Firings.{Firings}
 use Rattle.strc_fuse.specs.Units.{round_units}
 use Rattle.strc_stage_plan.specs.Plans.{IsPlan, PlanParts, graph_of, transformed_of}
 use Rattle.strc_stage_plan.specs.Bounds.{stage_bound, stage_bounds, stage_count}
@@ -11,7 +12,7 @@ use Rattle.strc_stage_plan.proofs.Shares.{bounds_are_listed}
 use Rattle.strc_stage_steps.specs.Plans.{IsCut}
 use Rattle.strc_stage_steps.proofs.Plans.{plan_bounds_are_a_cut}
 use Rattle.strc_stage_cut.specs.Bounds.{bound_in, last_of}
-use Rattle.strc_stage_cut.specs.Links.{items_between, link_of, room_of}
+use Rattle.strc_stage_cut.specs.Links.{carried_between, link_of, room_of}
 
 module _ (plan : PlanParts) (workers : ℕ) (plan_is : IsPlan plan) (some : 0 < workers)
     (nodes : 0 < length (graph_of plan).nodes) where
@@ -29,7 +30,7 @@ module _ (plan : PlanParts) (workers : ℕ) (plan_is : IsPlan plan) (some : 0 < 
   long : length bounds ≡ suc count
   long = (bounds_are_listed (transformed_of plan).outer_loops order workers).0
 
-  bound_is : (stage : ℕ) → stage ≤ count
+  pub bound_is : (stage : ℕ) → stage ≤ count
       → bound_in bounds stage ≡ stage_bound (transformed_of plan).outer_loops order workers stage
   bound_is stage less =
       (bounds_are_listed (transformed_of plan).outer_loops order workers).1 stage less
@@ -64,9 +65,10 @@ module _ (plan : PlanParts) (workers : ℕ) (plan_is : IsPlan plan) (some : 0 < 
   bounds_cut = subst (IsCut plan (bound_in bounds)) (sym stages_are) counted
 
 -- the room of each channel
-pub link_rooms : (plan : PlanParts) (at_bounds : List ℕ) (channels : List Channel)
-    → map room_of (map (link_of plan at_bounds) channels)
-    ≡ map (items_between plan at_bounds) channels
-link_rooms plan at_bounds [] = refl
-link_rooms plan at_bounds (channel ∷ channels) =
-    ap (λ l. items_between plan at_bounds channel ∷ l) (link_rooms plan at_bounds channels)
+pub link_rooms : (graph : Graph) (counts : Firings) (at_bounds : List ℕ) (channels : List Channel)
+    → map room_of (map (link_of graph counts at_bounds) channels)
+    ≡ map (carried_between graph counts at_bounds) channels
+link_rooms graph counts at_bounds [] = refl
+link_rooms graph counts at_bounds (channel ∷ channels) =
+    ap (λ l. carried_between graph counts at_bounds channel ∷ l)
+    (link_rooms graph counts at_bounds channels)

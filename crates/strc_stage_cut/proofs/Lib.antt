@@ -4,6 +4,7 @@ pub mod TapeNodes
 pub mod Cuts
 pub mod Carried
 pub mod RoundCounts
+pub mod Shared
 pub mod Crossings
 pub mod Parting
 pub mod Remainders

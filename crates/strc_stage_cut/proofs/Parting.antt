@@ -11,6 +11,7 @@ use Rattle.circular_buffer.specs.Buffer.{buffer}
 use Rattle.strc_work_meaning.specs.declared.word.Word.{Word}
 use Rattle.strc_elab_graph.specs.Graphs.{Channel, NodeCode, JoinsPorts, inputs_at, input_ports}
 use Rattle.strc_elab_graph.specs.Graphs.{outputs_at, output_ports}
+use Rattle.strc_sched_orders.specs.declared.unit as units
 use Rattle.strc_sched_laws.specs.Circuits.{IsCircuit}
 use Rattle.strc_sched_laws.specs.Machine.{CircuitView, MachineView, words_at}
 use Rattle.strc_sched_laws.specs.Rings.{Ring, ring_at}
@@ -21,12 +22,12 @@ use Rattle.strc_sched_rings.proofs.PartCircuits.{parts_are_part_circuits}
 use Rattle.strc_sched_machine.specs.Parts.{IsPart}
 use Rattle.strc_stage_plan.specs.Plans.{PlanParts, transformed_of}
 use Rattle.strc_stage_steps.specs.Beginnings.{IsCircuitOf, IsMachineOf, is_own}
-use Rattle.strc_stage_steps.specs.Runnings.{round_pushes}
-use Rattle.strc_stage_steps.specs.Plans.{running_of}
+use Rattle.strc_stage_steps.specs.Runnings.{Running, round_pushes}
 use Rattle.strc_stage_cut.specs.Bounds.{bound_in, last_of}
 use Rattle.strc_stage_cut.specs.Cuts.{IsCutAt}
-use Rattle.strc_stage_cut.specs.Links.{items_between}
-use Rattle.strc_stage_cut.proofs.Carried.{between_is}
+use Rattle.strc_stage_cut.specs.Fired.{running_by}
+use Rattle.strc_stage_cut.specs.Links.{carried_between}
+use Rattle.strc_stage_cut.proofs.Carried.{crossing_is}
 use Rattle.strc_stage_cut.proofs.Ranges.{own_from, own_below, is_outside}
 
 abbrev empty_ring : ℕ → Ring
@@ -41,21 +42,24 @@ bound_read bounds stage place own some most is read =
     ∙ ap (bound_in bounds) is
 
 -- a stage's part of a circuit and of a machine
-pub record IsParted (plan : PlanParts) (bounds : List ℕ) (circuit own : CircuitView)
-    (rooms : List ℕ) (before part : MachineView) (stage first next : ℕ) : Type 0 where
+pub record IsParted (plan : PlanParts) (fired : List units.Unit.Unit) (bounds : List ℕ)
+    (circuit own : CircuitView) (rooms : List ℕ) (before part : MachineView)
+    (stage first next : ℕ) : Type 0 where
   pub at : IsCutAt plan bounds
   pub most : stage ≤ last_of bounds
   pub first_is : first ≡ bound_in bounds stage
   pub next_is : next ≡ bound_in bounds (suc stage)
   pub whole : IsCircuit (transformed_of plan) circuit
   pub of : IsPartOf first next circuit own
-  pub rooms_are : rooms ≡ map (items_between plan bounds) (transformed_of plan).channels
+  pub rooms_are : rooms
+      ≡ map (carried_between (transformed_of plan) (running_by plan fired).counts bounds)
+      (transformed_of plan).channels
   pub each_fields : length before.fields ≡ length (transformed_of plan).nodes
   pub each_fired : length before.fired ≡ length (transformed_of plan).nodes
   pub is : IsPart (transformed_of plan) first next rooms before part
 
 -- a port is one of a node that is there
-port_there : (nodes : List NodeCode) (node port : ℕ) → port < inputs_at nodes node
+pub port_there : (nodes : List NodeCode) (node port : ℕ) → port < inputs_at nodes node
     → node < length nodes
 port_there nodes node port less = elim (cases_lt node (length nodes)) [
   | inl within ↦ within
@@ -67,7 +71,7 @@ port_there nodes node port less = elim (cases_lt node (length nodes)) [
   ))
 ]
 
-source_there : (nodes : List NodeCode) (node port : ℕ) → port < outputs_at nodes node
+pub source_there : (nodes : List NodeCode) (node port : ℕ) → port < outputs_at nodes node
     → node < length nodes
 source_there nodes node port less = elim (cases_lt node (length nodes)) [
   | inl within ↦ within
@@ -87,9 +91,16 @@ none_anywhere {A} count node = elim (cases_lt node count) [
       (omega (arith, past, length-replicate {A = List A} count []))
 ]
 
-module _ (plan : PlanParts) (bounds : List ℕ) (circuit own : CircuitView) (rooms : List ℕ)
-    (before part : MachineView) (stage first next : ℕ)
-    (parted : IsParted plan bounds circuit own rooms before part stage first next) where
+module _ (plan : PlanParts) (fired : List units.Unit.Unit) (bounds : List ℕ)
+    (circuit own : CircuitView) (rooms : List ℕ) (before part : MachineView)
+    (stage first next : ℕ)
+    (parted : IsParted plan fired bounds circuit own rooms before part stage first next) where
+  abbrev running : Running
+  running = running_by plan fired
+
+  abbrev carried : Channel → ℕ
+  carried = carried_between (transformed_of plan) (running_by plan fired).counts bounds
+
   abbrev bound : ℕ → ℕ
   bound = bound_in bounds
 
@@ -97,7 +108,7 @@ module _ (plan : PlanParts) (bounds : List ℕ) (circuit own : CircuitView) (roo
   last = last_of bounds
 
   abbrev IsOwn : ℕ → Type 0
-  IsOwn node = is_own (running_of plan) bound last circuit before stage node
+  IsOwn node = is_own running bound last circuit before stage node
 
   from : (node : ℕ) → IsOwn node → first ≤ node
   from node is = omega (
@@ -134,7 +145,7 @@ module _ (plan : PlanParts) (bounds : List ℕ) (circuit own : CircuitView) (roo
         (omega (arith, past, ap length parted.whole.codes)))
   ]
 
-  pub circuit_of : IsCircuitOf (running_of plan) bound last circuit before stage own
+  pub circuit_of : IsCircuitOf running bound last circuit before stage own
   circuit_of = record {
     each = part_circuit.each ∙ sym (ap length parted.whole.codes);
     codes = codes_are;
@@ -176,25 +187,25 @@ module _ (plan : PlanParts) (bounds : List ℕ) (circuit own : CircuitView) (roo
         (below channel.target.node (port_there (transformed_of plan).nodes channel.target.node
         channel.target.port joins.target) is)
 
-    room_is : slice_index rooms number ≡ items_between plan bounds channel
+    room_is : slice_index rooms number ≡ carried channel
     room_is =
         ap (λ (l : List ℕ). slice_index l number) parted.rooms_are
-        ∙ get_or-map (items_between plan bounds) (transformed_of plan).channels number
+        ∙ get_or-map carried (transformed_of plan).channels number
         channel 0
         (slice_get_within (transformed_of plan).channels number channel there)
-        ∙ ap (items_between plan bounds)
+        ∙ ap carried
         (get_or_from_slice_get (transformed_of plan).channels number channel channel there)
 
     leaving_is : (source : channel.source.node < length (transformed_of plan).nodes)
         → IsOwn channel.source.node → (IsOwn channel.target.node → ⊥)
-        → ring_at part.rings number ≡ buffer [] (round_pushes (running_of plan) channel)
+        → ring_at part.rings number ≡ buffer [] (round_pushes running channel)
     leaving_is source is other =
         parted.is.begun number channel there (outside channel.target.node other)
         (from channel.source.node is) (below channel.source.node source is)
         ∙ ap (λ (n : ℕ). empty_ring n) (room_is
-        ∙ between_is plan bounds channel (λ same. other (sym same ∙ is)))
+        ∙ crossing_is running bounds channel (λ same. other (sym same ∙ is)))
 
-  pub machine_of : IsMachineOf (running_of plan) bound last circuit before stage part
+  pub machine_of : IsMachineOf running bound last circuit before stage part
   machine_of = record {
     each_fields = parted.is.each_fields;
     each_fired = parted.is.each_fired;

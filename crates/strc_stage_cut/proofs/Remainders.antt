@@ -2,12 +2,15 @@
 use Rattle.std.proofs.Common.{◌≡◌, sym, ◌∙◌, subst, ℕ, suc, ◌≤◌, List, []}
 use Rattle.std.proofs.Common.{◌∷◌, ◌++◌, length, arith}
 use Rattle.strc_sched_laws.specs.Machine.{CircuitView, MachineView}
+use Rattle.strc_sched_orders.specs.declared.unit as units
 use Rattle.strc_stage_steps.specs.Plans.{IsCut}
+use Rattle.strc_stage_steps.specs.Runnings.{Running}
 use Rattle.strc_sched_machine.specs.Parts.{IsRest}
 use Rattle.strc_stage_plan.specs.Plans.{PlanParts, transformed_of}
 use Rattle.strc_stage_steps.specs.declared.stage.StageParts.{StageParts}
 use Rattle.strc_stage_cut.specs.Bounds.{bound_in, last_of}
 use Rattle.strc_stage_cut.specs.Cuts.{IsCutAt}
+use Rattle.strc_stage_cut.specs.Fired.{running_by}
 use Rattle.strc_stage_cut.specs.Made.{AreMade, IsMade}
 use Rattle.strc_stage_cut.proofs.Lists.{each_next}
 use Rattle.strc_stage_cut.proofs.Ranges.{own_from}
@@ -30,13 +33,17 @@ rest_next plan bound last stage started before after cut most was is =
       each_ring = is.each_ring ∙ was.each_ring;
     }
 
-module _ (plan : PlanParts) (bounds : List ℕ) (circuit : CircuitView) (at : IsCutAt plan bounds)
-    (started before : MachineView) (rounds stage : ℕ) where
+module _ (plan : PlanParts) (fired : List units.Unit.Unit) (bounds : List ℕ)
+    (circuit : CircuitView) (at : IsCutAt plan bounds) (started before : MachineView)
+    (rounds stage : ℕ) where
+  abbrev running : Running
+  running = running_by plan fired
+
   -- a stage that is made of what is left has what there was at first
   made_since : (own : StageParts)
       → IsRest (transformed_of plan) (bound_in bounds stage) started before
-      → IsMade plan bounds circuit before rounds stage own
-      → IsMade plan bounds circuit started rounds stage own
+      → IsMade running bounds circuit before rounds stage own
+      → IsMade running bounds circuit started rounds stage own
   made_since own rest made =
       let state = made.state in
       let from = own_from plan (bound_in bounds) (last_of bounds) at.cut stage in
@@ -78,11 +85,11 @@ module _ (plan : PlanParts) (bounds : List ℕ) (circuit : CircuitView) (at : Is
   pub made_more : (stages more : List StageParts) (own : StageParts) → length stages ≡ stage
       → more ≡ stages ++ own ∷ []
       → IsRest (transformed_of plan) (bound_in bounds stage) started before
-      → AreMade plan bounds circuit started rounds stages
-      → IsMade plan bounds circuit before rounds stage own
-      → AreMade plan bounds circuit started rounds more
+      → AreMade running bounds circuit started rounds stages
+      → IsMade running bounds circuit before rounds stage own
+      → AreMade running bounds circuit started rounds more
   made_more stages more own long is rest each made =
-      subst (AreMade plan bounds circuit started rounds) (sym is)
-      (each_next (IsMade plan bounds circuit started rounds) stages own each
-      (subst (λ (n : ℕ). IsMade plan bounds circuit started rounds n own) (sym long)
+      subst (AreMade running bounds circuit started rounds) (sym is)
+      (each_next (IsMade running bounds circuit started rounds) stages own each
+      (subst (λ (n : ℕ). IsMade running bounds circuit started rounds n own) (sym long)
       (made_since own rest made)))

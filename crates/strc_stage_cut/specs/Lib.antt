@@ -1,6 +1,7 @@
 pub mod Bounds
 pub mod Links
 pub mod Tapes
+pub mod Fired
 pub mod Cuts
 pub mod Made
 pub mod Launches

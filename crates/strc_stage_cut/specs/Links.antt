@@ -1,11 +1,12 @@
 -- Channels by the stages that they join.
-use Rattle.std.specs.Prelude.{ℕ, suc, Bool, ◌&&◌, not, eqb, nat_lt, nat_le, List, [], ◌∷◌, map}
+use Rattle.std.specs.Prelude.{ℕ, suc, ◌*◌, Bool, ◌&&◌, not, eqb, nat_lt, nat_le, List, [], ◌∷◌, map}
 use Rattle.std.specs.Prelude.{if◌then◌else◌}
-use Rattle.strc_elab_graph.specs.Graphs.{Channel}
+use Rattle.strc_elab_graph.specs.Graphs.{Channel, Graph}
 use Rattle.strc_stage_plan.specs.Plans.{PlanParts, transformed_of}
 use Rattle.strc_elab_dataflow.specs.Ranges.{stage_within}
 use Rattle.strc_stage_steps.specs.Beginnings.{crosses}
-use Rattle.strc_stage_steps.specs.Runnings.{round_pushes}
+use Rattle.strc_sched_orders.specs.Firings.{Firings}
+use Rattle.strc_startup.specs.Rates.{push_at}
 use Rattle.strc_stage_steps.specs.Plans.{running_of}
 use Rattle.strc_stage_steps.specs.CrossingBlocks.{raised}
 use Rattle.strc_stage_steps.specs.declared.crossing_items.Crossing.{Crossing}
@@ -15,22 +16,26 @@ use Rattle.strc_stage_cut.specs.declared.links.Link.{Link}
 use Rattle.strc_stage_cut.specs.declared.links.Side.{Side}
 use Rattle.strc_stage_cut.specs.declared.links.Side.TheVariants as side
 
--- How many items a channel carries in a round from stage to stage. One within a stage needs no room
--- for that.
-abbrev pub items_between : PlanParts → (bounds : List ℕ) → Channel → ℕ
-items_between plan bounds channel =
+-- How many items a channel carries from stage to stage where nodes fire so often. One within a
+-- stage needs no room for that.
+abbrev pub carried_between : Graph → (counts : Firings) → (bounds : List ℕ) → Channel → ℕ
+carried_between graph counts bounds channel =
     if crosses (bound_in bounds) (last_of bounds) channel
-    then round_pushes (running_of plan) channel else 0
+    then counts channel.source.node * push_at graph.nodes 1 channel.source else 0
 
-abbrev pub link_of : PlanParts → (bounds : List ℕ) → Channel → Link
-link_of plan bounds channel = record {
+-- So many in a plan's round.
+abbrev pub items_between : PlanParts → (bounds : List ℕ) → Channel → ℕ
+items_between plan = carried_between (transformed_of plan) (running_of plan).counts
+
+abbrev pub link_of : Graph → (counts : Firings) → (bounds : List ℕ) → Channel → Link
+link_of graph counts bounds channel = record {
   from = stage_within (bound_in bounds) (last_of bounds) channel.source.node;
   to = stage_within (bound_in bounds) (last_of bounds) channel.target.node;
-  room = items_between plan bounds channel;
+  room = carried_between graph counts bounds channel;
 }
 
-abbrev pub links_of : PlanParts → (bounds : List ℕ) → List Link
-links_of plan bounds = map (link_of plan bounds) (transformed_of plan).channels
+abbrev pub links_of : Graph → (counts : Firings) → (bounds : List ℕ) → List Link
+links_of graph counts bounds = map (link_of graph counts bounds) graph.channels
 
 abbrev pub room_of : Link → ℕ
 room_of link = link.room

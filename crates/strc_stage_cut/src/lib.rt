@@ -1,4 +1,5 @@
-// Takes a plan, the program's input, and how many rounds and workers there are.
+// Takes a plan, the program's input, how many rounds and workers there are, and the units that
+// stages fire in a step, such as those of a batch of rounds.
 // Gives what start-up comes to on this thread: its fault, or the machine of the graph after
 // fission, or the ring of stages that it leaves.
 // The theorem to rely on: `launch`, whose ring is the beginning of strc_stage_steps's law, cut
@@ -22,6 +23,7 @@ mod startup;
 mod tapes;
 mod units;
 
-pub use stage_ring::{Launch, Ring};
+pub use plan_cut::even_bounds;
+pub use stage_ring::{Launch, Ring, ring_by};
 pub use stages::{Stages, cut, launch};
 pub use startup::{Startup, start_up, start_up_in};

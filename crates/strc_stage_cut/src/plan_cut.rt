@@ -5,11 +5,11 @@ ghost use Rattle.strc_balance.specs.Balance.{count_at};
 ghost use Rattle.strc_elab_graph.specs.NodeView.{channel_view};
 ghost use Rattle.strc_elab_dataflow.specs.Ranges.{stage_within};
 ghost use Rattle.strc_stage_cut.specs.Bounds.{bound_in, last_of};
-ghost use Rattle.strc_stage_cut.specs.Cuts.{IsCutting};
+ghost use Rattle.strc_stage_cut.specs.Cuts.{IsCutAt, IsCutting};
+ghost use Rattle.strc_stage_cut.specs.Fired.{CanBeShared};
 ghost use Rattle.strc_stage_cut.specs.Launches.{bounds_of};
 ghost use Rattle.strc_stage_cut.specs.Links as spec;
 ghost use Rattle.strc_stage_plan.specs.Plans.{transformed_of};
-ghost use Rattle.strc_stage_steps.specs.Plans.{running_of};
 
 use crate::links::{Link, rooms};
 use crate::pushes::items_between;
@@ -18,6 +18,7 @@ use std::alloc::{AllocError, Global};
 use strc_elab_graph::graph::Channel;
 use strc_elab_graph::tapes::tape_list;
 use strc_lex_names::memory::NoMemory;
+use strc_sched_orders::unit::Unit;
 use strc_stage_plan::bounds::stage_bounds;
 use strc_stage_plan::plan::Plan;
 
@@ -28,25 +29,27 @@ pub(crate) struct Cut {
     pub bounds: Vec<usize>,
     /// The channels, by the stages that they join.
     pub links: Vec<Link>,
-    /// How many items each channel carries in a round from stage to stage.
+    /// How many items each channel carries in a step from stage to stage.
     pub rooms: Vec<u32>,
     /// The nodes that give words.
     pub tapes: Vec<usize>,
 }
 
 impl Cut {
-    /// The stages that so many workers share.
-    pub(crate) fn new(alloc: Global, plan: &Plan, workers: u32) -> Result<Cut, NoMemory>
-        requires workers { 0 < workers }
-        requires nodes { 0 < length plan.now.graph.nodes }
-        ensures cut { IfOk result (IsCutting plan.now) }
-        ensures bounds { IfOk result (λ cut. cut.bounds.items ≡ bounds_of plan.now workers) }
+    /// The stages with these bounds, where these units are fired in a step.
+    pub(crate) fn new(
+        alloc: Global,
+        plan: &Plan,
+        fired: &[Unit],
+        bounds: Vec<usize>,
+    ) -> Result<Cut, NoMemory>
+        requires at { IsCutAt plan.now bounds.items }
+        requires shared { CanBeShared plan.now fired.now bounds.items }
+        ensures cut { IfOk result (IsCutting plan.now fired.now) }
+        ensures bounds { IfOk result (λ cut. cut.bounds.items ≡ bounds.items) }
     {
-        plan.known();
         let graph = plan.transformed_graph();
-        let round = plan.transformed_schedule().round();
-        let bounds = stage_bounds(alloc, graph, round, workers)?;
-        let counts = firing_counts(alloc, graph.nodes().len(), round)?;
+        let counts = firing_counts(alloc, graph.nodes().len(), fired)?;
         let links = links_of(alloc, plan, &counts, &bounds)?;
         let rooms = rooms(alloc, &links)?;
         let tapes = tape_list(alloc, graph.nodes())?;
@@ -59,7 +62,20 @@ impl Cut {
     }
 }
 
-/// The channels of a plan, by the stages that they join.
+/// The bounds of the stages of a plan that so many workers share evenly: a stage for each worker,
+/// or for each group of nodes where these are fewer.
+pub fn even_bounds(alloc: Global, plan: &Plan, workers: u32) -> Result<Vec<usize>, AllocError>
+    requires workers { 0 < workers }
+    requires nodes { 0 < length plan.now.graph.nodes }
+    ensures bounds { IfOk result (λ bounds. bounds.items ≡ bounds_of plan.now workers) }
+    ensures cut { IfOk result (λ bounds. IsCutAt plan.now bounds.items) }
+{
+    plan.known();
+    let round = plan.transformed_schedule().round();
+    stage_bounds(alloc, plan.transformed_graph(), round, workers)
+}
+
+/// The channels of a plan, by the stages that they join, where nodes fire so often.
 fn links_of(
     alloc: Global,
     plan: &Plan,
@@ -67,10 +83,10 @@ fn links_of(
     bounds: &[usize],
 ) -> Result<Vec<Link>, AllocError>
     requires bounds { 2 ≤ length bounds.now }
-    requires counts { count_at counts.now ≡ (running_of plan.now).counts }
-    requires few { All (λ channel. spec.items_between plan.now bounds.now channel < 2 ^ 32)
-        (transformed_of plan.now).channels }
-    ensures { IfOk result (λ links. links.items ≡ spec.links_of plan.now bounds.now) }
+    requires few { All (λ channel. spec.carried_between (transformed_of plan.now)
+        (count_at counts.now) bounds.now channel < 2 ^ 32) (transformed_of plan.now).channels }
+    ensures { IfOk result (λ links. links.items
+        ≡ spec.links_of (transformed_of plan.now) (count_at counts.now) bounds.now) }
 {
     let channels = plan.transformed_graph().channels();
     let mut links = Vec::with_capacity(alloc, channels.len())?;
@@ -83,9 +99,10 @@ fn links_of(
 /// A channel, by the stages that it joins.
 fn link_of(plan: &Plan, counts: &[u32], bounds: &[usize], channel: &Channel) -> Link
     requires bounds { 2 ≤ length bounds.now }
-    requires counts { count_at counts.now ≡ (running_of plan.now).counts }
-    requires few { spec.items_between plan.now bounds.now (channel_view channel.now) < 2 ^ 32 }
-    ensures { result ≡ spec.link_of plan.now bounds.now (channel_view channel.now) }
+    requires few { spec.carried_between (transformed_of plan.now) (count_at counts.now) bounds.now
+        (channel_view channel.now) < 2 ^ 32 }
+    ensures { result ≡ spec.link_of (transformed_of plan.now) (count_at counts.now) bounds.now
+        (channel_view channel.now) }
 {
     let nodes = plan.transformed_graph().nodes();
     let from = stage_at(bounds, channel.source.node as usize);

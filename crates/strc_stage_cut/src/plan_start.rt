@@ -26,7 +26,8 @@ pub(crate) fn launched(
 {
     match start_up(alloc, plan, input)? {
         Startup::Ended { circuit, machine } => {
-            let ring = ring_of(alloc, plan, cut, &circuit, machine, rounds, workers)?;
+            let round = plan.transformed_schedule().round();
+            let ring = ring_of(alloc, plan, round, cut, &circuit, machine, rounds)?;
             Ok(Launch::Going(ring))
         }
         Startup::Faulted {

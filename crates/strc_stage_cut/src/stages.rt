@@ -4,7 +4,7 @@ ghost use Rattle.std.specs.Prelude.{◌≡◌, ◌<◌, IfOk, length};
 ghost use Rattle.strc_stage_cut.specs.Launches.{IsLaunch};
 ghost use Rattle.strc_stage_cut.specs.Stages.{stages_view};
 
-use crate::plan_cut::Cut;
+use crate::plan_cut::{Cut, even_bounds};
 use crate::plan_start::launched;
 use crate::stage_ring::Launch;
 use std::alloc::Global;
@@ -61,7 +61,10 @@ pub fn cut(alloc: Global, plan: &Plan, workers: u32) -> Result<Stages, NoMemory>
     requires nodes { 0 < length plan.now.graph.nodes }
     ensures { IfOk result (λ stages. stages ≡ stages_view plan.now workers) }
 {
-    let cut = Cut::new(alloc, plan, workers)?;
+    plan.known();
+    let bounds = even_bounds(alloc, plan, workers)?;
+    let round = plan.transformed_schedule().round();
+    let cut = Cut::new(alloc, plan, round, bounds)?;
     Ok(Stages {
         plan: plan.copy()?,
         workers,

@@ -1,4 +1,5 @@
-// Sums of windows and a quotient, by batches of these numbers of rounds.
+// Sums of windows and a quotient, by one worker and by several, by batches of these numbers of
+// rounds.
 
 use std::alloc::Global;
 use std::test::Fail;
@@ -22,13 +23,17 @@ void->void pipeline Main {
 }
 ";
 
-/// How many rounds at a time: one by one, as the plan suits, and so many.
-const BATCHINGS: [Batching; 5] = [
-    Batching::One,
-    Batching::Chosen,
-    Batching::Of(2),
-    Batching::Of(3),
-    Batching::Of(64),
+/// By how many workers, and how many rounds at a time: one by one, as the plan suits, and so many.
+const SHARINGS: [(u32, Batching); 9] = [
+    (1, Batching::One),
+    (1, Batching::Chosen),
+    (1, Batching::Of(2)),
+    (1, Batching::Of(3)),
+    (1, Batching::Of(64)),
+    (2, Batching::Of(3)),
+    (3, Batching::Chosen),
+    (3, Batching::Of(2)),
+    (64, Batching::Of(7)),
 ];
 
 fn plan_of(alloc: Global) -> Result<Plan, Fail> {
@@ -59,11 +64,8 @@ fn values_of(alloc: Global, outcome: &Outcome) -> Result<Vec<i32>, Fail> {
 fn batches_give_what_rounds_give(rt: HostRuntime) -> Result<(), Fail> {
     let plan = plan_of(rt.alloc())?;
     let input = [1, 2, 3, 4, 5, 6, 7, 8, 9];
-    for batching in BATCHINGS {
-        let sharing = Sharing {
-            workers: 1,
-            batching,
-        };
+    for (workers, batching) in SHARINGS {
+        let sharing = Sharing { workers, batching };
         let outcome = run_shared(&rt, rt.alloc(), &plan, &input, None, sharing, &OpenGate)?;
         let values = values_of(rt.alloc(), &outcome)?;
         assert_eq!(rt;
@@ -78,11 +80,8 @@ fn batches_give_what_rounds_give(rt: HostRuntime) -> Result<(), Fail> {
 fn a_fault_in_a_batch_is_that_of_its_round(rt: HostRuntime) -> Result<(), Fail> {
     let plan = plan_of(rt.alloc())?;
     let input = [6, 7, 8, 9, 10, 11];
-    for batching in BATCHINGS {
-        let sharing = Sharing {
-            workers: 1,
-            batching,
-        };
+    for (workers, batching) in SHARINGS {
+        let sharing = Sharing { workers, batching };
         let outcome = run_shared(&rt, rt.alloc(), &plan, &input, Some(4), sharing, &OpenGate)?;
         let Outcome::Fault {
             node,

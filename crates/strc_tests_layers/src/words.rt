@@ -27,7 +27,9 @@ fn reported(alloc: Global, line: &Line) -> Result<String, AllocError> {
             )
         }
         Command::Check { main } => format!(in alloc; "check {file} {}", name_of(main)),
-        Command::Plan { main } => format!(in alloc; "plan {file} {}", name_of(main)),
+        Command::Plan { long, main } => {
+            format!(in alloc; "plan {file} {long} {}", name_of(main))
+        }
         Command::Emit { main } => format!(in alloc; "emit {file} {}", name_of(main)),
         Command::Graph {
             workers,
@@ -88,8 +90,10 @@ strc run --batch=1 a.str => run a.str - 1 1 0 1 false -
 strc run --batch=4096 a.str --rounds 9 => run a.str 9 1 1 0 4096 false -
 strc check a.str => check a.str -
 strc check a.str --main M => check a.str M
-strc plan a.str => plan a.str -
-strc plan --main=M a.str => plan a.str M
+strc plan a.str => plan a.str false -
+strc plan --main=M a.str => plan a.str false M
+strc plan a.str --long => plan a.str true -
+strc plan --long --main M a.str => plan a.str true M
 strc emit a.str => emit a.str -
 strc emit --main=M a.str => emit a.str M
 strc graph a.str => graph a.str - - - -
@@ -156,6 +160,9 @@ strc check a.str --workers 2
 strc check a.str --ways 2
 strc check a.str --fuse 2
 strc plan a.str --stats
+strc plan a.str --long=true
+strc plan a.str --long --long
+strc check a.str --long
 strc plan a.str --ways 2
 strc plan --main M
 strc plan a.str b.str

@@ -2,14 +2,14 @@
 // each call. Such a case has a file NAME.pieces, with how many bytes its devices take at a time.
 
 use crate::devices::{Reader, told_writer};
-use crate::{answer_to, command_of, part, part_if_there, wanted_status};
+use crate::{answer_to, line_of, part, part_if_there, wanted_status};
 use std::io;
 use std::io::ErrorKind;
 use std::sync::Wait;
 use std::thread::Threads;
 use strc_cli::execute::{CliError, execute};
 use strc_cli_input::device::{Sink, Source, Told};
-use strc_cli_words::line::Command;
+use strc_cli_words::line::Line;
 use strc_run_links::OpenGate;
 
 // The status of a text that is refused.
@@ -31,7 +31,7 @@ struct Whole<'a> {
     name: &'a str,
     text: Vec<u8>,
     input: Vec<u8>,
-    command: Command,
+    line: Line,
     output: Vec<u8>,
     status: u8,
 }
@@ -78,14 +78,14 @@ pub(crate) fn run_broken<T: Threads + Wait + Sync>(
 
 fn whole_case<'a>(rt: &HostRuntime, name: &'a str) -> io::Result<Whole<'a>> {
     let given = String::from_utf8_lossy(rt.alloc(), &part(rt, name, "args")?)?;
-    let Some(command) = command_of(rt, name, &given)? else {
+    let Some(line) = line_of(rt, name, &given)? else {
         return Err(io::Error::new(ErrorKind::InvalidData, "no command"));
     };
     Ok(Whole {
         name,
         text: part(rt, name, "str")?,
         input: part_if_there(rt, name, "in")?,
-        command,
+        line,
         output: part(rt, name, "out")?,
         status: wanted_status(rt, name)?,
     })
@@ -102,7 +102,7 @@ fn cut_text<T: Threads + Wait + Sync>(
     for length in 0..whole.text.len() {
         let (beginning, rest) = whole.text.split_at(length);
         let input = whole.input.as_slice();
-        let found = answer_to(rt, threads, whole.name, beginning, input, &whole.command)?;
+        let found = answer_to(rt, threads, whole.name, beginning, input, &whole.line)?;
         let is_as_wanted = if rest.iter().all(|byte| byte.is_ascii_whitespace()) {
             found.status == whole.status && found.output == whole.output
         } else {
@@ -159,7 +159,7 @@ fn fail_reads<T: Threads + Wait + Sync>(
             threads,
             rt.alloc(),
             &whole.text,
-            &whole.command,
+            &whole.line.command,
             &mut input,
             &mut output,
             &OpenGate,
@@ -205,7 +205,7 @@ fn fail_writes<T: Threads + Wait + Sync>(
             threads,
             rt.alloc(),
             &whole.text,
-            &whole.command,
+            &whole.line.command,
             &mut input,
             &mut output,
             &OpenGate,

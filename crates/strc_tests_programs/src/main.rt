@@ -25,11 +25,13 @@ use std::process::ExitCode;
 use std::sync::Wait;
 use std::thread::{Builder, Threads};
 use std::{fs, io, thread};
+use strc_cli::answer::main_name;
 use strc_cli::execute::Status;
 use strc_cli::explanation::execute_explained;
 use strc_cli_input::device::Told;
 use strc_cli_input::watched_input::WatchedInput;
-use strc_cli_words::line::{Command, LineFault};
+use strc_cli_lint::lint::lint_message;
+use strc_cli_words::line::{Command, Line, LineFault};
 use strc_cli_words::words::command;
 use strc_run_links::{OpenGate, StageTimes};
 
@@ -37,7 +39,7 @@ use strc_run_links::{OpenGate, StageTimes};
 const WORDS: u8 = 1;
 
 // The words with which a case is run besides: it comes to the same.
-const RUNS: [&str; 10] = [
+const RUNS: [&str; 12] = [
     "--workers 2",
     "--workers 3 --fuse 2",
     "--workers 64 --fuse 8",
@@ -46,6 +48,8 @@ const RUNS: [&str; 10] = [
     "--workers 4 --ways 64 --fuse 2",
     "--batch 1",
     "--batch 2",
+    "--batch 2 --workers 3",
+    "--batch 4 --workers 5 --ways 2 --fuse 2",
     "--batch 3 --ways 2",
     "--batch 7 --fuse 8",
 ];
@@ -259,7 +263,7 @@ fn found_answer<T: Threads + Wait + Sync>(
     name: &str,
     given: &str,
 ) -> io::Result<Answer> {
-    let Some(command) = command_of(rt, name, given)? else {
+    let Some(line) = line_of(rt, name, given)? else {
         return Ok(Answer {
             output: Vec::new(rt.alloc()),
             status: WORDS,
@@ -268,11 +272,11 @@ fn found_answer<T: Threads + Wait + Sync>(
     };
     let text = part(rt, name, "str")?;
     let input = part_if_there(rt, name, "in")?;
-    answer_to(rt, threads, name, &text, &input, &command)
+    answer_to(rt, threads, name, &text, &input, &line)
 }
 
-/// The command of a case's words; none where they aren't understood.
-fn command_of(rt: &HostRuntime, name: &str, given: &str) -> io::Result<Option<Command>> {
+/// What a case's words ask for; nothing where they aren't understood.
+fn line_of(rt: &HostRuntime, name: &str, given: &str) -> io::Result<Option<Line>> {
     let alloc = rt.alloc();
     let file = format!(in alloc; "{name}.str")?;
     let mut given = given.split_whitespace();
@@ -281,7 +285,7 @@ fn command_of(rt: &HostRuntime, name: &str, given: &str) -> io::Result<Option<Co
         words.push(word)?;
     }
     match command(alloc, &words) {
-        Ok(line) => Ok(Some(line.command)),
+        Ok(line) => Ok(Some(line)),
         Err(LineFault::Words) => Ok(None),
         Err(LineFault::Memory) => Err(io::Error::from(ErrorKind::OutOfMemory)),
     }
@@ -294,9 +298,10 @@ fn answer_to<T: Threads + Wait + Sync>(
     name: &str,
     text: &[u8],
     input: &[u8],
-    command: &Command,
+    line: &Line,
 ) -> io::Result<Answer> {
     let alloc = rt.alloc();
+    let command = &line.command;
     let mut input = WatchedInput::new(alloc, Told::new(input));
     let mut output = Told::new(Vec::new(alloc));
     let file = format!(in alloc; "{name}.str")?;
@@ -328,6 +333,12 @@ fn answer_to<T: Threads + Wait + Sync>(
     let mut message = explained.message;
     if let Ok(Status::Refused) = explained.result {
         message.extend_from_slice(&input.wrong_word_line(alloc)?)?;
+    }
+    if line.lint && matches!(explained.result, Ok(Status::Done)) {
+        let Ok(doubts) = lint_message(alloc, &file, text, main_name(command)) else {
+            return Err(io::Error::from(ErrorKind::OutOfMemory));
+        };
+        message.extend_from_slice(&doubts)?;
     }
     match explained.result {
         Ok(status) => Ok(Answer {

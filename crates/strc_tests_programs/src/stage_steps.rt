@@ -56,7 +56,7 @@ fn steps_in_threads<T: Threads + Wait + Sync>(
         workers,
         ways: 1,
         fuse: 0,
-        batch: None,
+        batch: Some(1),
         stats: true,
         main: None,
     };

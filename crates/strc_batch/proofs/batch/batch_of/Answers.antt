@@ -10,4 +10,4 @@ returns-in-Ok-batch_sizes-clause-batch c =
     let some = subst (λ n. 0 < n) (sym (length-map plan.graph.nodes node_view)) c.requires.nodes in
     batch_made plan c.args.rounds c.in-Ok.units.items c.in-Ok-batch_sizes.sizes.items
     c.known.ensures.is c.requires.rounds some c.in-Ok.ensures.units c.in-Ok.ensures.short
-    c.in-Ok-batch_sizes.ensures.sizes
+    c.in-Ok-batch_sizes.ensures.sizes c.in-Ok-batch_sizes.ensures.within

@@ -29,5 +29,6 @@ returns-in-Ok-clause-answered c =
         main = c.in-Ok.ensures.answered.1 ∙ (c.in_ok-main.ensures.same
             ∙ (c.get_str-2.ensures ∙ first_value-rows found (codes "main")));
         live = c.is_set.ensures;
+        lint = c.is_set-in-Ok.ensures;
       },
     )

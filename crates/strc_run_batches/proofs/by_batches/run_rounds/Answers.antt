@@ -1,15 +1,12 @@
-use Rattle.std.proofs.Common.{◌≡◌, ◌∙◌, ap, subst, ◌/◌, ◌%◌, ℕ, List, Option}
+use Rattle.std.proofs.Common.{◌∙◌, ap, subst, ◌/◌, ◌%◌, ℕ, List, Option}
 use Rattle.std.specs.Prelude.{IfSome}
-use Rattle.strc_elab_dataflow.specs.Staging.{repeated}
 use Rattle.strc_sched_orders.specs.Greedy.{firings_of}
-use Rattle.strc_sched_orders.specs.Schedules.{ScheduleParts}
-use Rattle.strc_sched_laws.specs.Laws.{round_order}
-use Rattle.strc_sched_laws.specs.Machine.{Went, order_run, rounds_run}
+use Rattle.strc_sched_laws.specs.Machine.{rounds_run}
 use Rattle.strc_sched_rings.specs.Circuits.{circuit_view}
-use Rattle.strc_sched_machine.specs.Batches.{units_of}
 use Rattle.strc_sched_machine.specs.Running.{machine_view}
 use Rattle.strc_sched_machine.specs.declared.machine.Machine.{Machine}
 use Rattle.strc_sched.specs.Plain.{IsEnding}
+use Rattle.strc_batch_plans.specs.Plans.{WentThrough}
 use Rattle.strc_run_batches.specs.Batched.{batch_firings}
 use Rattle.strc_run_batches.proofs.Endings.{comes_so}
 use Rattle.strc_run_batches.proofs.by_batches.run_rounds.Goals as goal
@@ -22,16 +19,11 @@ returns-in-Ok c =
     let machine = machine_view c.args.machine in
     let later = machine_view c.in-Some.later in
     let rounds = c.args.rounds in
-    let same_order = c.in_ok-round.ensures.firings
-    ∙ ap firings_of (c.round.ensures
-    ∙ ap (λ (s : ScheduleParts). s.round) c.transformed_schedule.ensures.schedule) in
-    let own = subst (λ (o : Option Machine). IfSome o (λ (l : Machine). order_run circuit
-    (repeated (rounds % c.rounds.result) (firings_of (units_of c.in_ok-round.round))) machine
-    ≡ Went (machine_view l))) c.in-Some.is c.in_ok-later.ensures.went in
-    let went = subst (λ (k : ℕ). order_run circuit
-    (repeated (rounds % k) (round_order plan.split.schedule)) machine ≡ Went later)
-    c.rounds.ensures (subst (λ (l : List ℕ). order_run circuit
-    (repeated (rounds % c.rounds.result) l) machine ≡ Went later) same_order own) in
+    let own = subst (λ (o : Option Machine). IfSome o (λ (l : Machine). WentThrough plan
+    (rounds % c.rounds.result) circuit machine (machine_view l))) c.in-Some.is
+    c.in_ok-later.ensures.went in
+    let went = subst (λ (k : ℕ). WentThrough plan (rounds % k) circuit machine later)
+    c.rounds.ensures own in
     let ending = subst (λ (k : ℕ). IsEnding circuit.codes c.in-Ok.outcome
     (rounds_run circuit (batch_firings plan batch) (rounds / k) 0 later)) c.rounds-2.ensures
     (subst (λ (l : List ℕ). IsEnding circuit.codes c.in-Ok.outcome

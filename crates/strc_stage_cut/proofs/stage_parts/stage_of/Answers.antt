@@ -4,22 +4,19 @@ use Rattle.std.proofs.lemmas.List.{length-map}
 use Rattle.strc_elab_graph.specs.NodeView.{GraphParts, graph_view}
 use Rattle.strc_elab_graph.specs.Tapes.{tape_nodes}
 use Rattle.strc_sched_orders.specs.Greedy.{firings_of}
-use Rattle.strc_sched_orders.specs.Schedules.{ScheduleParts}
-use Rattle.strc_sched_orders.specs.declared.unit as units
 use Rattle.strc_sched_rings.specs.Circuits.{circuit_view}
 use Rattle.strc_sched_rings.specs.Parts.{IsPartCircuit}
-use Rattle.strc_sched_rings.specs.Units.{unit_views}
 use Rattle.strc_sched_rings.proofs.UnitLists.{same_firings}
 use Rattle.strc_fuse.specs.Units.{round_units}
 use Rattle.strc_stage_plan.specs.Cuts.{IsBetweenUnits, firings_within, segment_of, units_within}
 use Rattle.strc_stage_plan.proofs.StageUnits.{segments_are_units}
-use Rattle.strc_sched_laws.specs.Laws.{round_order}
 use Rattle.strc_sched_machine.specs.Actors.{fields_of}
 use Rattle.strc_sched_machine.specs.Parts.{HoldsFrom, IsPart, IsRest}
 use Rattle.strc_sched_machine.specs.Running.{machine_view}
 use Rattle.strc_stage_steps.specs.Tapes.{AreAfter}
 use Rattle.strc_stage_plan.specs.Plans.{transformed_of}
 use Rattle.strc_stage_cut.specs.Bounds.{bound_in, last_of}
+use Rattle.strc_stage_cut.specs.Fired.{running_by}
 use Rattle.strc_stage_cut.specs.Links.{blocks_in, crossings_in}
 use Rattle.strc_stage_cut.specs.Made.{IsMade}
 use Rattle.strc_stage_cut.specs.Tapes.{tapes_in}
@@ -52,7 +49,7 @@ new-requires-2 c =
     }
 
 parted : (c : goal.After-new-2)
-    → IsParted c.args.plan.now c.args.cut.now.bounds.items
+    → IsParted c.args.plan.now c.args.fired.now c.args.cut.now.bounds.items
     (circuit_view c.args.circuit.now) (circuit_view c.in_ok-own.own) c.args.cut.now.rooms.items
     (machine_view c.args.machine.now) (machine_view c.in_ok-part.part) c.args.stage
     c.index-first.result.now c.index-next.result.now
@@ -83,33 +80,28 @@ parted c =
 
 order_is : (c : goal.After-new-2)
     → firings_of c.in_ok-order.order.units.items
-    ≡ segment_of (bound_in c.args.cut.now.bounds.items)
-    (round_order c.args.plan.now.split.schedule) c.args.stage
+    ≡ segment_of (bound_in c.args.cut.now.bounds.items) (firings_of c.args.fired.now) c.args.stage
 order_is c =
-    let plan = c.args.plan.now in
-    let at = c.requires.cut.at in
-    let between_first = subst (λ (n : ℕ). IsBetweenUnits (round_units plan.split.schedule.round) n)
-    (sym (parted c).first_is)
-    (at.cut.units c.args.stage (omega (arith, c.requires.stage))) in
-    let between_next = subst (λ (n : ℕ). IsBetweenUnits (round_units plan.split.schedule.round) n)
-    (sym (parted c).next_is)
-    (at.cut.units (suc c.args.stage) (omega (arith, c.requires.stage))) in
+    let fired = c.args.fired.now in
+    let shared = c.requires.cut.shared in
+    let is = parted c in
+    let between_first = subst (λ (n : ℕ). IsBetweenUnits (round_units fired) n)
+    (sym is.first_is) (shared.between c.args.stage (omega (arith, c.requires.stage))) in
+    let between_next = subst (λ (n : ℕ). IsBetweenUnits (round_units fired) n)
+    (sym is.next_is) (shared.between (suc c.args.stage) (omega (arith, c.requires.stage))) in
     let first = c.index-first.result.now in
     let next = c.index-next.result.now in
-    let is = parted c in
     ap firings_of c.in_ok-order.ensures.units
-    ∙ same_firings c.in_ok-units.units.items (units_within first next plan.split.schedule.round)
-    (c.in_ok-units.ensures ∙ ap (λ (l : List units.Unit.Unit).
-    unit_views (units_within first next l)) (c.round-round.ensures
-    ∙ ap (λ (s : ScheduleParts). s.round) c.transformed_schedule.ensures.schedule))
-    ∙ segments_are_units plan.split.schedule.round first next between_first between_next
-    ∙ ap (λ (n : ℕ). firings_within n next (round_order plan.split.schedule)) is.first_is
+    ∙ same_firings c.in_ok-units.units.items (units_within first next fired) c.in_ok-units.ensures
+    ∙ segments_are_units fired first next between_first between_next
+    ∙ ap (λ (n : ℕ). firings_within n next (firings_of fired)) is.first_is
     ∙ ap (λ (n : ℕ). firings_within (bound_in c.args.cut.now.bounds.items c.args.stage) n
-    (round_order plan.split.schedule)) is.next_is
+    (firings_of fired)) is.next_is
 
 pub returns-clause-made : goal.returns-clause-made
 returns-clause-made c =
     let plan = c.args.plan.now in
+    let running = running_by plan c.args.fired.now in
     let cut = c.args.cut.now in
     let bounds = cut.bounds.items in
     let stage = c.args.stage in
@@ -118,20 +110,20 @@ returns-clause-made c =
     let is = parted c in
     let tapes = c.in_ok-tapes_within.ensures
     ∙ ap (tapes_in first next 0) (c.deref-4.ensures.value ∙ c.requires.cut.tapes) in
-    subst (IsMade plan bounds (circuit_view c.args.circuit.now)
+    subst (IsMade (running_by plan c.args.fired.now) bounds (circuit_view c.args.circuit.now)
     (machine_view c.args.machine.now) c.args.rounds stage) (sym c.new-2.ensures)
     (record {
       state = record {
-        circuit_is = circuit_of plan bounds _ _ _ _ _ _ _ _ is;
+        circuit_is = circuit_of plan c.args.fired.now bounds _ _ _ _ _ _ _ _ is;
         order_is = order_is c;
         entering_is = c.in_ok-crossings.ensures
             ∙ ap (crossings_in side.Entering stage 0 0) (c.deref-2.ensures.value
             ∙ c.requires.cut.links)
-            ∙ entering_is plan bounds stage;
+            ∙ entering_is running bounds stage;
         leaving_is = c.in_ok-crossings-2.ensures
             ∙ ap (crossings_in side.Leaving stage 0 0) (c.deref-3.ensures.value
             ∙ c.requires.cut.links)
-            ∙ leaving_is plan bounds stage;
+            ∙ leaving_is running bounds stage;
         tapes_are = tapes
             ∙ ap (λ (n : ℕ). tapes_in n next 0 (tape_nodes (transformed_of plan).nodes)) is.first_is
             ∙ ap (λ (n : ℕ). tapes_in (bound_in bounds stage) n 0
@@ -140,11 +132,11 @@ returns-clause-made c =
             c.requires.stage 0 0 (transformed_of plan).nodes (omega arith);
         blocks_are = c.in_ok-blocks.ensures
             ∙ ap (blocks_in stage) (c.deref-5.ensures.value ∙ c.requires.cut.links)
-            ∙ blocks_are plan bounds stage;
+            ∙ blocks_are running bounds stage;
         tape_count_is = c.len.ensures ∙ cut.tapes.ok.0 ∙ ap length c.requires.cut.tapes;
         machine = machine_view c.in_ok-part.part;
         machine_is = refl;
-        is_machine = machine_of plan bounds _ _ _ _ _ _ _ _ is;
+        is_machine = machine_of plan c.args.fired.now bounds _ _ _ _ _ _ _ _ is;
       };
       fresh = record {
         first_is = refl;

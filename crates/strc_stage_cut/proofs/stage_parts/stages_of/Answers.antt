@@ -29,8 +29,8 @@ loop-stage-preserved c =
     record {
       each = ap length c.in_ok-push.ensures.items ∙ length_push c.loop-stage.stages.items _
           ∙ ap (λ (n : ℕ). n + 1) so_far.each;
-      made = made_more plan bounds (circuit_view c.args.circuit.now) at started before
-          c.args.rounds stage c.loop-stage.stages.items c.push.new.self.items
+      made = made_more plan c.args.fired.now bounds (circuit_view c.args.circuit.now) at started
+          before c.args.rounds stage c.loop-stage.stages.items c.push.new.self.items
           c.in_ok-stage_of.field-0 so_far.each c.in_ok-push.ensures.items so_far.rest so_far.made
           own.made;
       rest = subst (λ (n : ℕ). IsRest (transformed_of plan) (bound_in bounds n) started

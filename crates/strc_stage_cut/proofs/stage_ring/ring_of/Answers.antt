@@ -1,4 +1,4 @@
-use Rattle.std.proofs.Common.{◌≡◌, ◌∙◌, sym, ap, subst, ◌*◌, ℕ, List, length, map}
+use Rattle.std.proofs.Common.{◌∙◌, sym, ap, subst, ◌*◌, length, map}
 use Rattle.std.specs.Prelude.{slice_get}
 use Rattle.std.specs.Vec.{vec_items}
 use Rattle.std.proofs.lemmas.List.{length-map}
@@ -7,15 +7,10 @@ use Rattle.strc_elab_graph.specs.Tapes.{tape_nodes}
 use Rattle.strc_sched_laws.specs.Machine.{words_at}
 use Rattle.strc_sched_rings.specs.Circuits.{circuit_view}
 use Rattle.strc_sched_machine.specs.Running.{machine_view}
-use Rattle.strc_stage_steps.specs.Beginnings.{IsBeginning}
-use Rattle.strc_stage_steps.specs.Plans.{running_of}
-use Rattle.strc_stage_steps.specs.Collectors.{begun}
 use Rattle.strc_stage_steps.specs.declared.collector.CollectorParts.{CollectorParts}
-use Rattle.strc_stage_cut.specs.Bounds.{bound_in, last_of}
-use Rattle.strc_stage_cut.specs.Launches.{IsRingOf, bounds_of, start_of}
-use Rattle.strc_stage_cut.specs.Made.{AreMade}
+use Rattle.strc_stage_cut.specs.Fired.{running_by}
+use Rattle.strc_stage_cut.specs.Launches.{IsRingOf}
 use Rattle.strc_stage_cut.proofs.Begun.{AreParts, is_beginning}
-use Rattle.strc_stage_cut.proofs.Cuts.{bounds_cut, stages_are}
 use Rattle.strc_stage_cut.proofs.stage_ring.ring_of.Goals as goal
 
 pub tape_words-requires : goal.tape_words-requires
@@ -32,16 +27,13 @@ tape_words-requires c =
 pub returns : goal.returns
 returns c =
     let plan = c.args.plan.now in
+    let fired = c.args.fired.now in
     let bounds = c.args.cut.now.bounds.items in
     let circuit = circuit_view c.args.circuit.now in
     let started = machine_view c.args.machine in
-    let workers = c.args.workers in
     let stages = c.in_ok-stages.stages.items in
-    let is = c.requires.stages.cutting.at.is in
-    let some = c.requires.stages.some_node in
-    let same : bounds ≡ bounds_of plan workers = c.requires.stages.bounds in
     let stages_are_made = c.in_ok-stages.ensures in
-    let parts : AreParts plan bounds circuit started c.args.rounds stages
+    let parts : AreParts (running_by plan fired) bounds circuit started c.args.steps stages
     c.in_ok-free.free.items c.in_ok-words.words = record {
       each = stages_are_made.each;
       made = stages_are_made.made;
@@ -54,22 +46,14 @@ returns c =
           ∙ ap (λ l. map (words_at started.words) (tape_nodes (map node_view l)))
           (c.nodes.ensures ∙ ap (λ (g : GraphParts). g.nodes) c.transformed_graph.ensures);
     } in
-    subst (λ (collector : CollectorParts). IsRingOf plan circuit started c.args.rounds workers
+    subst (λ (collector : CollectorParts). IsRingOf plan fired bounds circuit started c.args.steps
     (record {
       stages = c.in_ok-stages.stages;
       free = c.in_ok-free.free;
       collector = collector;
     })) (sym c.new.ensures) (record {
-      count = stages_are plan workers is c.requires.stages.some_worker some;
-      cut = bounds_cut plan workers is c.requires.stages.some_worker some;
-      beginning = subst (λ (l : List ℕ). IsBeginning (running_of plan) (bound_in l) (last_of l)
-          circuit started c.args.rounds (start_of (record {
-            stages = c.in_ok-stages.stages;
-            free = c.in_ok-free.free;
-            collector = begun c.in_ok-words.words c.args.rounds;
-          }))) same
-          (is_beginning plan bounds circuit started c.args.rounds stages c.in_ok-free.free.items
-          c.in_ok-words.words parts);
-      made = subst (λ (l : List ℕ). AreMade plan l circuit started c.args.rounds stages) same
-          stages_are_made.made;
+      cut = c.requires.cut.at.cut;
+      beginning = is_beginning (running_by plan fired) bounds circuit started c.args.steps stages
+          c.in_ok-free.free.items c.in_ok-words.words parts;
+      made = stages_are_made.made;
     })

@@ -1,0 +1,5 @@
+pub mod Counted
+pub mod Groups
+pub mod PickedGroups
+pub mod Rows
+pub mod WeighedBounds

@@ -1,0 +1,5 @@
+pub mod FiringWork
+pub mod RoundWork
+pub mod StageBounds
+pub mod Laws
+pub mod Rows
