@@ -127,9 +127,9 @@ fn explanation(
                 node: *node,
                 firing: *firing,
                 round: *round,
-                cause: *cause,
+                cause: cause.copy(),
             };
-            fault_message(alloc, file, text, main, plan.graph(), site)
+            fault_message(alloc, file, text, main, plan.graph(), &site)
         }
         _ => Ok(Vec::new(alloc)),
     }

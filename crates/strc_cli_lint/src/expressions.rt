@@ -69,7 +69,7 @@ fn look_at(
             Ok(number.map(|number| number.wrapping_neg()))
         }
         Expr::Element(_, inner)
-        | Expr::Peek(inner)
+        | Expr::Peek(_, inner)
         | Expr::Unary(_, inner)
         | Expr::StepElement(_, _, inner) => {
             let _number = look_at(inner, place, false, findings)?;
@@ -77,16 +77,16 @@ fn look_at(
         }
         Expr::Call(_, arguments) => look_at_arguments(arguments, place, findings),
         Expr::Binary(operator, left, right) => {
-            let masks = matches!(operator, BinaryOperator::And);
+            let masks = matches!(operator.kind(), BinaryOperator::And);
             let first = look_at(left, place, masks, findings)?;
             let second = look_at(right, place, masks, findings)?;
-            if !is_masked && keeps_sign(*operator, left) {
+            if !is_masked && keeps_sign(operator.kind(), left) {
                 findings.push(Finding {
                     place,
                     doubt: Doubt::KeepsSign,
                 })?;
             }
-            value_of(*operator, first, second, place, findings)
+            value_of(operator.kind(), first, second, place, findings)
         }
         Expr::Conditional(condition, chosen, other) => {
             let _number = look_at(condition, place, false, findings)?;
@@ -146,8 +146,11 @@ fn is_natural(value: &Expr) -> bool {
     match value {
         Expr::Number(number) => *number >= 0,
         Expr::Group(inner) => is_natural(inner),
-        Expr::Binary(BinaryOperator::And, left, right) => is_natural(left) || is_natural(right),
-        Expr::Binary(BinaryOperator::ShiftRight, left, _) => is_natural(left),
+        Expr::Binary(operator, left, right) => match operator.kind() {
+            BinaryOperator::And => is_natural(left) || is_natural(right),
+            BinaryOperator::ShiftRight => is_natural(left),
+            _ => false,
+        },
         _ => false,
     }
 }

@@ -1,9 +1,9 @@
 // What a person reads of a run that ends early, or that isn't run.
 
-ghost use Rattle.std.specs.Prelude.{◌≡◌, [], codes, IfOk, slice_get};
+ghost use Rattle.std.specs.Prelude.{◌≡◌, [], codes, IfOk, IfSome, slice_get};
 ghost use Rattle.strc_cli_places.specs.Nodes.{MarksName};
 ghost use Rattle.strc_cli_places.specs.Refused as spec;
-ghost use Rattle.strc_cli_places.specs.Refused.{MarksFaultOf};
+ghost use Rattle.strc_cli_places.specs.Refused.{IsOperatorOf, MarksFaultOf};
 ghost use Rattle.strc_cli_source.specs.Messages.{IsMessage};
 ghost use Rattle.strc_cli_messages.specs.Told as told;
 
@@ -11,31 +11,31 @@ use crate::refusal::tokens_of;
 use std::alloc::Global;
 use strc_cli_source::message::Message;
 use strc_cli_source::nodes::push_node;
-use strc_cli_source::operators::faulting_part;
+use strc_cli_source::operators::{can_fault, faulting_part, with_operand};
 use strc_cli_source::source::Source;
 use strc_cli_source::spelling::spelled_or_first;
 use strc_cli_source::tokens::keyword_before;
 use strc_cli_statements::bodies::faulting_statement;
 use strc_elab_graph::graph::{Graph, Node};
 use strc_elab_graph::instance::Instance;
-use strc_lex::token::Keyword;
+use strc_lex::token::{Keyword, Token};
 use strc_lex_names::memory::NoMemory;
 use strc_lex_names::place::Span;
 use strc_parse_tree::tree::{FilterTree, Member, Stmt};
 use strc_sched_outcome::outcome::Round;
 use strc_sched_outcome::run_refusal::RunRefusal;
 use strc_work_meaning::body::Body;
-use strc_work_meaning::fault::Cause;
+use strc_work_meaning::fault::{Cause, LocatedCause, Trapped};
 
 /// A firing that faulted.
-#[derive(Clone, Copy)]
+#[derive(Drop)]
 pub struct FaultSite {
     /// The node, by its number.
     pub node: u32,
     /// How often it had fired before.
     pub firing: u64,
     pub round: Round,
-    pub cause: Cause,
+    pub cause: LocatedCause,
 }
 
 /// What a person reads of a fault in the run of a flat graph: the place in the file of the
@@ -48,12 +48,12 @@ pub fn fault_message<'a>(
     text: &'a [u8],
     main: Option<&'a str>,
     graph: &Graph,
-    fault: FaultSite,
+    fault: &FaultSite,
 ) -> Result<Vec<u8>, NoMemory>
     ensures message { IfOk result (λ message. IsMessage file.now text.now message.items) }
     // It is about the part of the body that faults, where only one can, or about its filter.
     ensures told { IfOk result (λ message. told.TellsFaultOfText file.now text.now graph.now.nodes
-        fault.node fault.firing fault.cause message.items) }
+        fault.now.node fault.now.firing fault.now.cause message.items) }
 {
     let tokens = tokens_of(alloc, text)?;
     let source = Source {
@@ -69,16 +69,17 @@ fn write_fault(
     alloc: Global,
     source: Source<'_>,
     graph: &Graph,
-    fault: FaultSite,
+    fault: &FaultSite,
 ) -> Result<Vec<u8>, NoMemory>
     ensures { IfOk result (λ message. told.TellsFault source.entry.file.now
-        source.entry.text.now source.entry.tokens.now fault.cause (spec.body_fired fault.firing)
-        (slice_get graph.now.nodes fault.node) message.items) }
+        source.entry.text.now source.entry.tokens.now fault.now.cause
+        (spec.body_fired fault.now.firing) (slice_get graph.now.nodes fault.now.node)
+        message.items) }
 {
     let place = place_of_fault(alloc, source, graph, fault)?;
     let mut message = Message::new(alloc);
     push_node(&mut message, Some(graph), fault.node as usize)?;
-    message.add(cause_words(fault.cause))?;
+    push_cause(&mut message, &fault.cause)?;
     message.add(b" in its firing ")?;
     message.number(fault.firing)?;
     push_round(&mut message, fault.round)?;
@@ -86,23 +87,53 @@ fn write_fault(
     source.message(alloc, place, message)
 }
 
-/// The statement that faults, where it is known; else the filter.
+/// The operator, the array or the look that faulted, where that is known, or else the statement;
+/// else the filter.
 fn place_of_fault(
     alloc: Global,
     source: Source<'_>,
     graph: &Graph,
-    fault: FaultSite,
+    fault: &FaultSite,
 ) -> Result<Option<Span>, NoMemory>
-    ensures { IfOk result (MarksFaultOf source.entry.text.now source.entry.tokens.now fault.cause
-        (spec.body_fired fault.firing) (slice_get graph.now.nodes fault.node)) }
+    ensures { IfOk result (MarksFaultOf source.entry.text.now source.entry.tokens.now
+        fault.now.cause (spec.body_fired fault.now.firing)
+        (slice_get graph.now.nodes fault.now.node)) }
 {
     let Some(Node::Filter(instance)) = graph.nodes().get(fault.node as usize) else {
         return Ok(None);
     };
+    if let Some(part) = operator_of(source.tokens, &fault.cause) {
+        return Ok(Some(part));
+    }
     let body = body_fired(fault.firing);
-    match faulting_statement(alloc, &instance.code, body, fault.cause)? {
-        Some(statement) => Ok(Some(faulting_part(source, statement, fault.cause))),
+    let cause = fault.cause.cause();
+    match faulting_statement(alloc, &instance.code, body, cause)? {
+        Some(statement) => Ok(Some(faulting_part(source, statement, cause))),
         None => Ok(place_of_filter(source, instance)),
+    }
+}
+
+/// The operator that faulted, where the cause says at which byte it begins, or its array's name.
+fn operator_of(tokens: &[Token], cause: &LocatedCause) -> Option<Span>
+    ensures { IfSome result (IsOperatorOf tokens.now cause.now) }
+{
+    let byte = cause.byte()?;
+    let first = tokens.iter().position(|token| token.span.start == byte)?;
+    match operator_at(tokens, first, cause.cause()) {
+        Some(part) => Some(part),
+        None => operator_at(tokens, first.checked_add(1)?, cause.cause()),
+    }
+}
+
+/// The place of the token of this number, where it is an operator that can fault so.
+fn operator_at(tokens: &[Token], number: usize, cause: Cause) -> Option<Span>
+    ensures { IfSome result (IsOperatorOf tokens.now cause) }
+{
+    let token = tokens.get(number)?;
+    if can_fault(&token.kind, cause) {
+        with_operand(tokens, number)
+    } else {
+        None
     }
 }
 
@@ -166,14 +197,46 @@ fn block_place(block: &[Stmt]) -> Option<Span> {
 }
 
 /// What a firing did.
-fn cause_words(cause: Cause) -> &'static [u8] {
-    match cause {
-        Cause::DivZero => b" divides by zero",
-        Cause::Index => b" uses an index outside of its array",
-        Cause::PeekRange => b" looks at an item outside of its window",
-        Cause::Turns => b" makes more than 1,000,000 turns of loops and calls",
-        Cause::Calls => b" has more than 64 calls running at once",
+fn push_cause(message: &mut Message, cause: &LocatedCause) -> Result<(), NoMemory> {
+    match cause.cause() {
+        Cause::DivZero => Ok(message.add(b" divides by zero")?),
+        Cause::Index => push_index(message, cause.trapped()),
+        Cause::PeekRange => push_look(message, cause.trapped()),
+        Cause::Turns => Ok(message.add(b" makes more than 1,000,000 turns of loops and calls")?),
+        Cause::Calls => Ok(message.add(b" has more than 64 calls running at once")?),
     }
+}
+
+/// Which index was outside of its array, where that was noted.
+fn push_index(message: &mut Message, trapped: Trapped) -> Result<(), NoMemory> {
+    if trapped.count == 0 {
+        return Ok(message.add(b" uses an index outside of its array")?);
+    }
+    message.add(b" uses index ")?;
+    push_signed(message, trapped.index)?;
+    message.add(b" of an array of ")?;
+    message.number(u64::from(trapped.count))?;
+    Ok(message.add(b" (indexes count from 0)")?)
+}
+
+/// Which item wasn't in the window, where that was noted.
+fn push_look(message: &mut Message, trapped: Trapped) -> Result<(), NoMemory> {
+    let Some(last) = trapped.count.checked_sub(1) else {
+        return Ok(message.add(b" looks at an item outside of its window")?);
+    };
+    message.add(b" looks at peek(")?;
+    push_signed(message, trapped.index)?;
+    message.add(b"), outside of its window, which is peek(0) to peek(")?;
+    message.number(u64::from(last))?;
+    Ok(message.add(b") there")?)
+}
+
+/// A number in decimal, with its sign.
+fn push_signed(message: &mut Message, number: i32) -> Result<(), NoMemory> {
+    if number < 0 {
+        message.add(b"-")?;
+    }
+    Ok(message.number(u64::from(number.unsigned_abs()))?)
 }
 
 /// When it was.

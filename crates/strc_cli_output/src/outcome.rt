@@ -29,7 +29,7 @@ pub fn outcome_text(alloc: Global, graph: &Graph, outcome: &Outcome) -> Result<V
             tapes,
         } => {
             push_closed_tapes(&mut text, graph, tapes)?;
-            push_fault(&mut text, *node, *firing, *round, *cause)?;
+            push_fault(&mut text, *node, *firing, *round, cause.cause())?;
         }
     }
     Ok(text)

@@ -29,7 +29,7 @@ use Rattle.strc_cli_source.specs.Headings.{heading}
 use Rattle.strc_cli_places.specs.declared.rate_places.Moved.{Moved}
 use Rattle.strc_cli_places.specs.Keywords.{declared_keyword}
 use Rattle.strc_cli_places.specs.Nodes.{MarksName}
-use Rattle.strc_cli_source.specs.Operators.{faulting_part}
+use Rattle.strc_cli_source.specs.Operators.{can_fault, faulting_part, operator_at}
 use Rattle.strc_cli_source.specs.Spelling.{MarksFrom}
 use Rattle.strc_cli_places.specs.Streams.{IsRecursive}
 use Rattle.strc_cli_statements.specs.Statements.{fault_place, start_fault_place, uncounted_place}
@@ -151,11 +151,18 @@ abbrev pub filter_name : Option Node → Option (List ℕ)
 filter_name (Some (node.Filter instance)) = instance.name
 filter_name _ = None
 
--- what is marked of a fault in a firing of a node, of this body: the part of the only statement
--- that can fault so, or else the name of its filter
+-- an operator of the text that can fault so
+abbrev pub IsOperatorOf : List Token → Cause → Span → Type 0
+IsOperatorOf tokens cause part = (number : ℕ)
+    × (option_map (λ token. can_fault cause token.kind) (slice_get tokens number) ≡ Some true)
+    × (operator_at tokens (Some number) ≡ Some part)
+
+-- what is marked of a fault in a firing of a node, of this body: an operator that can fault so; or
+-- the part of the only statement that can, or else the name of its filter
 abbrev pub MarksFaultOf : List ℕ → List Token → Cause → Body → Option Node → Option Span → Type 0
 MarksFaultOf text tokens cause body faulting place =
-    MarksPart text tokens cause (filter_name faulting)
+    ((part : Span) × (place ≡ Some part) × IsOperatorOf tokens cause part)
+    ⊎ MarksPart text tokens cause (filter_name faulting)
     (option_and_then (fault_place cause body) (node_tree faulting)) place
 
 -- the body of a firing with so many before it: the first is the prework, or where there is none the

@@ -50,7 +50,7 @@ fn can_fault_in(token: &Token, place: Span, cause: Cause) -> bool
 }
 
 /// Whether a token is an operator that can fault so.
-fn can_fault(token: &TokenKind, cause: Cause) -> bool
+pub fn can_fault(token: &TokenKind, cause: Cause) -> bool
     ensures { result ≡ spec.can_fault cause token.now }
 {
     match (cause, token) {
@@ -74,7 +74,7 @@ fn is_division(mark: Punctuation) -> bool
 }
 
 /// The place of an operator; of the bracket of an element that of the element.
-fn with_operand(tokens: &[Token], operator: usize) -> Option<Span>
+pub fn with_operand(tokens: &[Token], operator: usize) -> Option<Span>
     ensures { result ≡ spec.operator_at tokens.now (Some operator) }
 {
     let found = tokens.get(operator)?;

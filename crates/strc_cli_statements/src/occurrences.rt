@@ -243,7 +243,7 @@ fn walk_expression(value: &Expr, here: Option<Span>, walk: &mut Walk) -> Result<
     match value {
         Expr::Number(_) | Expr::Truth(_) | Expr::Read(_) | Expr::Pop | Expr::Step(_, _) => Ok(()),
         Expr::Group(inner) | Expr::Unary(_, inner) => walk_expression(inner, here, walk),
-        Expr::Peek(index) => {
+        Expr::Peek(_, index) => {
             walk_expression(index, here, walk)?;
             walk.meet(Sought::Peek, here)
         }
@@ -258,7 +258,7 @@ fn walk_expression(value: &Expr, here: Option<Span>, walk: &mut Walk) -> Result<
         Expr::Binary(operator, left, right) => {
             walk_expression(left, here, walk)?;
             walk_expression(right, here, walk)?;
-            if divides(*operator) && can_be_zero(right) {
+            if divides(operator.kind()) && can_be_zero(right) {
                 walk.meet(Sought::Division, here)?;
             }
             Ok(())

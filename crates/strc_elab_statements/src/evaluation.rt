@@ -31,7 +31,7 @@ pub fn value(expression: &Expr, store: &mut Store) -> Result<i32, Cause>
             Ok(store.variables.cell(name, place))
         }
         Expr::Pop => Err(Cause::PeekRange),
-        Expr::Peek(index) => {
+        Expr::Peek(_, index) => {
             value(index, store)?;
             Err(Cause::PeekRange)
         }
@@ -54,11 +54,11 @@ pub fn value(expression: &Expr, store: &mut Store) -> Result<i32, Cause>
         }
         Expr::Binary(operator, left, right) => {
             let left = value(left, store)?;
-            if decides(*operator, left) {
+            if decides(operator.kind(), left) {
                 return Ok(left);
             }
             let right = value(right, store)?;
-            binary_value(*operator, left, right)
+            binary_value(operator.kind(), left, right)
         }
         Expr::Conditional(condition, chosen, other) => {
             let test = value(condition, store)?;

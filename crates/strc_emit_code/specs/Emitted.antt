@@ -83,8 +83,8 @@ inst_lines function (act.ShiftRight into left right) =
 inst_lines function (act.Add into left right) = binary_lines binary.Add into left right
 inst_lines function (act.Subtract into left right) = binary_lines binary.Subtract into left right
 inst_lines function (act.Multiply into left right) = binary_lines binary.Multiply into left right
-inst_lines function (act.Divide into left right) = division_lines binary.Divide into left right
-inst_lines function (act.Remainder into left right) =
+inst_lines function (act.Divide into left right origin) = division_lines binary.Divide into left right
+inst_lines function (act.Remainder into left right origin) =
     division_lines binary.Remainder into left right
 inst_lines function (act.AddConst into from value) =
     c.Assign into (c.Binary binary.Add (c.Slot from) (c.Number value)) ∷ []
@@ -117,9 +117,9 @@ inst_lines function (act.SubtractNumber into left spare number) =
 inst_lines function (act.MultiplyNumber into left spare number) =
     number_lines binary.Multiply into left spare spare number
 inst_lines function (act.Pop into) = pop_lines function into
-inst_lines function (act.Peek into from) = peek_lines function into from
-inst_lines function (act.Load into base length index) = load_lines into base length index
-inst_lines function (act.Store base length index from) = store_lines base length index from
+inst_lines function (act.Peek into from origin) = peek_lines function into from
+inst_lines function (act.Load into base length index origin) = load_lines into base length index
+inst_lines function (act.Store base length index from origin) = store_lines base length index from
 inst_lines function (act.Clear base length) = c.Clear base length ∷ []
 inst_lines function (act.Push from) = push_lines function from
 inst_lines function (act.Print from) = c.Print (c.Slot from) false ∷ []

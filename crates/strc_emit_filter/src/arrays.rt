@@ -116,8 +116,8 @@ fn end_all(ends: &mut Vec<u32>, nodes: &[Node]) {
 fn end_insts(ends: &mut Vec<u32>, insts: &[Inst]) {
     for inst in insts {
         match *inst {
-            Inst::Load(_, base, length, _)
-            | Inst::Store(base, length, _, _)
+            Inst::Load(_, base, length, _, _)
+            | Inst::Store(base, length, _, _, _)
             | Inst::Clear(base, length) => end_array(ends, base, length),
             _ => {}
         }

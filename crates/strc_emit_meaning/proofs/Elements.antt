@@ -63,7 +63,7 @@ module _ (function : Function) (setting : Setting) (stand : Standing) (start : M
 
   pub load_does : (into base length index : ℕ) (machine : Machine) (memory : Memory) → into < size
       → base + length ≤ size → index < size → Shown machine memory
-      → Refines Shown (inst_done setting.port (act.Load into base length index) machine)
+      → Refines Shown (inst_done setting.port (act.Load into base length index 0) machine)
       (lines_done calls stand (load_lines into base length index) memory)
   load_does into base length index machine memory into_lt fits index_lt shows =
       by (index_cases at length)
@@ -89,10 +89,10 @@ module _ (function : Function) (setting : Setting) (stand : Standing) (start : M
 
       by : ((place : ℕ) × (at ≡ pos place) × (place < length))
           ⊎ ((is_outside at length ≡ true) × IsPast at length)
-          → Refines Shown (inst_done setting.port (act.Load into base length index) machine)
+          → Refines Shown (inst_done setting.port (act.Load into base length index 0) machine)
           (lines_done calls stand (load_lines into base length index) memory)
       by (inr past) =
-          refines_as Shown (inst_done setting.port (act.Load into base length index) machine)
+          refines_as Shown (inst_done setting.port (act.Load into base length index 0) machine)
           (lines_done calls stand (load_lines into base length index) memory)
           (Err (Faults cause.Index))
           (leaves calls stand test cause.Index lines memory
@@ -113,7 +113,7 @@ module _ (function : Function) (setting : Setting) (stand : Standing) (start : M
           ∙ ap (λ r. result_and_then r (λ place.
           Ok (memory.cells (slot_cell stand (base + place)))))
           (place_is length 0 m (omega (arith, found.2))) in
-          refines_as Shown (inst_done setting.port (act.Load into base length index) machine)
+          refines_as Shown (inst_done setting.port (act.Load into base length index 0) machine)
           (lines_done calls stand (load_lines into base length index) memory)
           (Ok (written (slot_cell stand into) number memory))
           (goes_on calls stand test cause.Index lines memory
@@ -127,7 +127,7 @@ module _ (function : Function) (setting : Setting) (stand : Standing) (start : M
 
   pub store_does : (base length index from : ℕ) (machine : Machine) (memory : Memory)
       → base + length ≤ size → index < size → from < size → Shown machine memory
-      → Refines Shown (inst_done setting.port (act.Store base length index from) machine)
+      → Refines Shown (inst_done setting.port (act.Store base length index from 0) machine)
       (lines_done calls stand (store_lines base length index from) memory)
   store_does base length index from machine memory fits index_lt from_lt shows =
       by (index_cases at length)
@@ -156,10 +156,10 @@ module _ (function : Function) (setting : Setting) (stand : Standing) (start : M
 
       by : ((place : ℕ) × (at ≡ pos place) × (place < length))
           ⊎ ((is_outside at length ≡ true) × IsPast at length)
-          → Refines Shown (inst_done setting.port (act.Store base length index from) machine)
+          → Refines Shown (inst_done setting.port (act.Store base length index from 0) machine)
           (lines_done calls stand (store_lines base length index from) memory)
       by (inr past) =
-          refines_as Shown (inst_done setting.port (act.Store base length index from) machine)
+          refines_as Shown (inst_done setting.port (act.Store base length index from 0) machine)
           (lines_done calls stand (store_lines base length index from) memory)
           (Err (Faults cause.Index))
           (leaves calls stand test cause.Index lines memory
@@ -177,7 +177,7 @@ module _ (function : Function) (setting : Setting) (stand : Standing) (start : M
           Ok (written (slot_cell stand (base + place)) given memory)))
           (lines_done calls stand [])) (place_is length 0 m (omega (arith, found.2)))
           ∙ ap (λ p. Ok (written (slot_cell stand (base + p)) given memory)) (zero-add m) in
-          refines_as Shown (inst_done setting.port (act.Store base length index from) machine)
+          refines_as Shown (inst_done setting.port (act.Store base length index from 0) machine)
           (lines_done calls stand (store_lines base length index from) memory) (Ok last)
           (goes_on calls stand test cause.Index lines memory
           (tested machine memory length index false small index_lt shows

@@ -84,11 +84,11 @@ module _ (function : Function) (setting : Setting) (stand : Standing) (start : M
   inst_does (act.Multiply into left right) machine memory plain room shows =
       steps.binary_does function setting stand start size calls stands lower binary.Multiply
       into left right machine memory (omega arith) (omega arith) (omega arith) refl shows
-  inst_does (act.Divide into left right) machine memory plain room shows =
+  inst_does (act.Divide into left right origin) machine memory plain room shows =
       steps.division_does function setting stand start size calls stands lower binary.Divide
       quotient (λ a b. refl) into left right machine memory (omega arith) (omega arith)
       (omega arith) shows
-  inst_does (act.Remainder into left right) machine memory plain room shows =
+  inst_does (act.Remainder into left right origin) machine memory plain room shows =
       steps.division_does function setting stand start size calls stands lower binary.Remainder
       remainder (λ a b. refl) into left right machine memory (omega arith) (omega arith)
       (omega arith) shows
@@ -156,13 +156,13 @@ module _ (function : Function) (setting : Setting) (stand : Standing) (start : M
   inst_does (act.Pop into) machine memory plain room shows =
       steps.pop_does function setting stand start size calls stands lower into machine
       memory (omega arith) shows
-  inst_does (act.Peek into from) machine memory plain room shows =
+  inst_does (act.Peek into from origin) machine memory plain room shows =
       steps.peek_does function setting stand start size calls stands lower into from
       machine memory (omega arith) (omega arith) shows
-  inst_does (act.Load into base length index) machine memory plain room shows =
+  inst_does (act.Load into base length index origin) machine memory plain room shows =
       elements.load_does function setting stand start size calls stands lower into base
       length index machine memory (omega arith) (omega arith) (omega arith) shows
-  inst_does (act.Store base length index from) machine memory plain room shows =
+  inst_does (act.Store base length index from origin) machine memory plain room shows =
       elements.store_does function setting stand start size calls stands lower base
       length index from machine memory (omega arith) (omega arith) (omega arith) shows
   inst_does (act.Clear base length) machine memory plain room shows =

@@ -234,7 +234,7 @@ module _ (function : Function) (setting : Setting) (stand : Standing) (start : M
 
   pub peek_does : (into from : ℕ) (machine : Machine) (memory : Memory) → into < size → from < size
       → Shown machine memory
-      → Refines Shown (inst_done setting.port (act.Peek into from) machine)
+      → Refines Shown (inst_done setting.port (act.Peek into from 0) machine)
       (lines_done calls stand (peek_lines function into from) memory)
   peek_does into from machine memory into_lt from_lt shows =
       by (index_cases at (function.peek - n))
@@ -278,10 +278,10 @@ module _ (function : Function) (setting : Setting) (stand : Standing) (start : M
 
       by : ((place : ℕ) × (at ≡ pos place) × (place < function.peek - n))
           ⊎ ((is_outside at (function.peek - n) ≡ true) × IsPast at (function.peek - n))
-          → Refines Shown (inst_done setting.port (act.Peek into from) machine)
+          → Refines Shown (inst_done setting.port (act.Peek into from 0) machine)
           (lines_done calls stand (peek_lines function into from) memory)
       by (inr past) =
-          refines_as Shown (inst_done setting.port (act.Peek into from) machine)
+          refines_as Shown (inst_done setting.port (act.Peek into from 0) machine)
           (lines_done calls stand (peek_lines function into from) memory)
           (Err (Faults cause.PeekRange))
           (leaves calls stand test cause.PeekRange lines memory (tested true past.0))
@@ -297,7 +297,7 @@ module _ (function : Function) (setting : Setting) (stand : Standing) (start : M
           let place : value_of stand ahead memory ≡ Ok (pos (n + m)) =
           ahead_is function setting stand start size stands lower machine memory from m
           (shows.slots from from_lt ∙ found.1) lt shows in
-          refines_as Shown (inst_done setting.port (act.Peek into from) machine)
+          refines_as Shown (inst_done setting.port (act.Peek into from 0) machine)
           (lines_done calls stand (peek_lines function into from) memory)
           (Ok (written (slot_cell stand into) item memory))
           (goes_on calls stand test cause.PeekRange lines memory

@@ -129,7 +129,7 @@ fn tell_fault<O: Sink>(
         (device_of (O.contents output.old) (O.has_failed output.old))
         (device_of (O.contents output.new) (O.has_failed output.new)) }
 {
-    let Ok(text) = fault_text(alloc, plan, site) else {
+    let Ok(text) = fault_text(alloc, plan, &site) else {
         return tell_no_memory(output);
     };
     write_line(&text, Status::Fault, LiveEnd::Faulted(site), output)
@@ -202,14 +202,14 @@ pub(crate) fn end_of(answer: Answer) -> LiveEnd
 }
 
 // The line of a fault.
-fn fault_text(alloc: Global, plan: &Plan, site: FaultSite) -> Result<Vec<u8>, AllocError>
-    ensures { IfOk result (λ text. text.items ≡ fault_of site) }
+fn fault_text(alloc: Global, plan: &Plan, site: &FaultSite) -> Result<Vec<u8>, AllocError>
+    ensures { IfOk result (λ text. text.items ≡ fault_of site.now) }
 {
     let outcome = Outcome::Fault {
         node: site.node,
         firing: site.firing,
         round: site.round,
-        cause: site.cause,
+        cause: site.cause.copy(),
         tapes: Vec::new(alloc),
     };
     outcome_text(alloc, plan.graph(), &outcome)

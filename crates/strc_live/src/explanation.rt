@@ -44,7 +44,7 @@ fn explanation(
         LiveEnd::Stopped(Stop::BadInput { word }) => bad_input_message(alloc, *word),
         LiveEnd::Stopped(Stop::NotRun(refusal)) => not_run_message(alloc, file, *refusal),
         LiveEnd::Faulted(site) => match &report.plan {
-            Some(plan) => fault_message(alloc, file, text, main, plan.graph(), *site),
+            Some(plan) => fault_message(alloc, file, text, main, plan.graph(), site),
             None => Ok(Vec::new(alloc)),
         },
         LiveEnd::SeveralTapes => Ok(SEVERAL_TAPES.to_vec(alloc)?),

@@ -30,7 +30,7 @@ use strc_live_feeds::live_feed::{Fed, LiveFeed};
 use strc_run::compile::Plan;
 use strc_run::run::{Outcome, Round, RunRefusal};
 use strc_stage::old_names::renamed;
-use strc_work_meaning::fault::Cause;
+use strc_work_meaning::fault::LocatedCause;
 use strc_work_meaning::word::Word;
 
 /// What is written of a run's words, in memory that is used again.
@@ -225,7 +225,14 @@ fn step<I: Source, O: Sink>(
 }
 
 /// A fault of a round, by the nodes before fission.
-fn faulted(alloc: Global, plan: &Plan, node: u32, firing: u64, round: u32, cause: Cause) -> LiveEnd
+fn faulted(
+    alloc: Global,
+    plan: &Plan,
+    node: u32,
+    firing: u64,
+    round: u32,
+    cause: LocatedCause,
+) -> LiveEnd
     ensures { IsFaultOf plan.now node firing round cause result }
 {
     let own = Outcome::Fault {

@@ -18,7 +18,7 @@ use strc_live_runs::laws::live_runs_read_on;
 use strc_live_runs::start::{Started, start};
 use strc_sched::plain::input_needed;
 use strc_stage_plan::plan::Plan;
-use strc_work_meaning::fault::Cause;
+use strc_work_meaning::fault::LocatedCause;
 
 /// What comes of the start of a live run.
 #[derive(Drop)]
@@ -29,7 +29,7 @@ pub enum Begun {
     Faulted {
         node: u32,
         firing: u64,
-        cause: Cause,
+        cause: LocatedCause,
     },
     /// The input has ended, with fewer numbers than start-up reads.
     Short {

@@ -14,7 +14,7 @@ use strc_cli_input::number_reader::NumberReader;
 use strc_live_runs::laws::live_runs_read_on;
 use strc_live_runs::live_run::LiveRun;
 use strc_sched_machine::machine::Stop;
-use strc_work_meaning::fault::Cause;
+use strc_work_meaning::fault::LocatedCause;
 use strc_work_meaning::word::Word;
 
 /// A live run after start-up and the numbers of its input, with memory that rounds use again.
@@ -45,7 +45,7 @@ pub enum Fed {
     Faulted {
         node: u32,
         firing: u64,
-        cause: Cause,
+        cause: LocatedCause,
     },
     /// Memory ran out.
     NoMemory,

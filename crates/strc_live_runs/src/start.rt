@@ -20,7 +20,7 @@ use strc_sched_machine::machine::Machine;
 use strc_sched_rings::circuit::Circuit;
 use strc_stage_cut::{Startup, start_up};
 use strc_stage_plan::plan::Plan;
-use strc_work_meaning::fault::Cause;
+use strc_work_meaning::fault::LocatedCause;
 use strc_work_meaning::word::Word;
 
 /// What start-up comes to.
@@ -32,7 +32,7 @@ pub enum Started {
     Faulted {
         node: u32,
         firing: u64,
-        cause: Cause,
+        cause: LocatedCause,
     },
 }
 

@@ -12,11 +12,13 @@ ghost use Rattle.strc_parse_grammar.specs.Readers.{ReadsExpressions};
 use crate::lookahead::{is_punctuation, tail};
 use crate::operator::operator_at;
 use crate::part::{beside, raise};
+use crate::place::origin_of;
 use crate::rule_result::Parsed;
 use crate::{Fault, ReadError};
 use std::alloc::Global;
 use strc_lex::token::{Punctuation, Token};
 use strc_parse_tree::node::{binary_of, conditional_of};
+use strc_parse_tree::operator::Operator;
 use strc_parse_tree::tree::Expr;
 
 /// The lowest precedence, which `c ? a : b` has.
@@ -206,6 +208,7 @@ impl<F: Fn(Global, usize, usize, &[Token]) -> Result<Parsed<'_, Expr>, ReadError
             let parts = (kept, right.value);
             let (parts, higher) = raise(self.depth, parts, height.max(right.height))?;
             let (kept, other) = parts;
+            let operator = Operator::new(operator, origin_of(rest));
             left = binary_of(self.alloc, operator, kept, other)?;
             height = higher;
             rest = right.rest;

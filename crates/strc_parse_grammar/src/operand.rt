@@ -15,11 +15,13 @@ use crate::expression::ExpressionRules;
 use crate::lookahead::{expect, is_punctuation, name, peek, tail, unexpected};
 use crate::operator::step_after;
 use crate::part::raise;
+use crate::place::origin_of;
 use crate::rule_result::Parsed;
 use std::alloc::Global;
 use strc_lex::token::{Keyword, Punctuation, Token, TokenKind};
 use strc_lex_names::name::Name;
 use strc_parse_tree::node::{call_of, group_of, peek_of, read_of, step_of, unary_of};
+use strc_parse_tree::operator::Origin;
 use strc_parse_tree::tree::{Expr, StepOperator, UnaryOperator};
 
 /// `x` or `x++`, `x[i]` or `x[i]++`: after the name and its index.
@@ -101,7 +103,7 @@ impl<F: Fn(Global, usize, usize, &[Token]) -> Result<Parsed<'_, Expr>, ReadError
             Keyword::True => Ok(Parsed::new(Expr::Truth(true), 1, tail(tokens))),
             Keyword::False => Ok(Parsed::new(Expr::Truth(false), 1, tail(tokens))),
             Keyword::Pop => pop_brackets(tail(tokens)),
-            Keyword::Peek => self.peek_brackets(tail(tokens)),
+            Keyword::Peek => self.peek_brackets(origin_of(tokens), tail(tokens)),
             _ => Err(unexpected(tokens)),
         }
     }
@@ -229,7 +231,11 @@ impl<F: Fn(Global, usize, usize, &[Token]) -> Result<Parsed<'_, Expr>, ReadError
 
     /// `peek(i)`: after the keyword.
     #[tactic(auto, unfolding(crate::specs::Reading::peek_brackets))]
-    fn peek_brackets<'t>(&self, tokens: &'t [Token]) -> Result<Parsed<'t, Expr>, ReadError>
+    fn peek_brackets<'t>(
+        &self,
+        origin: Origin,
+        tokens: &'t [Token],
+    ) -> Result<Parsed<'t, Expr>, ReadError>
         requires deep { 0 < self.now.depth }
         requires reads { ReadsExpressions (self.now.depth - 1)
             (F.pre self.now.reader) (F.post self.now.reader) }
@@ -241,7 +247,11 @@ impl<F: Fn(Global, usize, usize, &[Token]) -> Result<Parsed<'_, Expr>, ReadError
         let index = self
             .closed(Punctuation::CloseParen, inside)?
             .raise(self.depth)?;
-        Ok(Parsed::new(peek_of(self.alloc, index.value)?, index.height, index.rest))
+        Ok(Parsed::new(
+            peek_of(self.alloc, origin, index.value)?,
+            index.height,
+            index.rest,
+        ))
     }
 
     /// `(e)`: after the bracket.

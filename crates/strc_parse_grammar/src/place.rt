@@ -5,6 +5,15 @@ ghost use Rattle.strc_parse_grammar.specs.Places as spec;
 
 use strc_lex::token::Token;
 use strc_lex_names::place::Span;
+use strc_parse_tree::operator::Origin;
+
+/// Where the first of these tokens is written.
+pub(crate) fn origin_of(tokens: &[Token]) -> Origin {
+    match tokens.first() {
+        Some(first) => Origin::at(first.span.start),
+        None => Origin::none(),
+    }
+}
 
 /// The place from the first of these tokens up to the last one before those that follow it.
 pub fn span_of(tokens: &[Token], rest: &[Token]) -> Span

@@ -34,7 +34,7 @@ abbrev mutual
   expr_view (expr.Read name) = tree.Read name
   expr_view (expr.Element' name at index) = tree.Element name (expr_view index)
   expr_view expr.Pop = tree.Pop
-  expr_view (expr.Peek' at index) = tree.Peek (expr_view index)
+  expr_view (expr.Peek' origin at index) = tree.Peek (expr_view index)
   expr_view (expr.Call' name shape arguments) = tree.Call name (arguments_view arguments)
   expr_view (expr.Group' at inner) = tree.Group (expr_view inner)
   expr_view (expr.Unary' operator at operand) = tree.Unary operator (expr_view operand)

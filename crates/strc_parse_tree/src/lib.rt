@@ -5,4 +5,5 @@
 #![tactic(auto)]
 
 pub mod node;
+pub mod operator;
 pub mod tree;

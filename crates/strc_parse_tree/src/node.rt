@@ -13,9 +13,10 @@ ghost use Rattle.strc_parse_tree.specs.declared.tree.Child.TheVariants as child;
 ghost use Rattle.strc_parse_tree.specs.Tree.{row, chain, arguments_of};
 ghost use Rattle.strc_parse_tree.specs.Tree as tree;
 
+use crate::operator::{Operator, Origin};
 use crate::tree::{
-    BinaryOperator, Child, CompositeKind, Expr, HelperType, Member, RateTree, StepOperator, Stmt,
-    StreamType, UnaryOperator,
+    Child, CompositeKind, Expr, HelperType, Member, RateTree, StepOperator, Stmt, StreamType,
+    UnaryOperator,
 };
 use std::alloc::{AllocError, Global};
 use strc_lex_names::name::Name;
@@ -47,10 +48,10 @@ pub fn step_of(
     }
 }
 
-pub fn peek_of(alloc: Global, index: Expr) -> Result<Expr, AllocError>
+pub fn peek_of(alloc: Global, origin: Origin, index: Expr) -> Result<Expr, AllocError>
     ensures { IfOk result (λ e. expr_view e ≡ tree.Peek (expr_view index)) }
 {
-    Ok(Expr::Peek(Box::new(alloc, index)?))
+    Ok(Expr::Peek(origin, Box::new(alloc, index)?))
 }
 
 pub fn call_of(name: Name, arguments: Vec<Expr>) -> Expr
@@ -73,7 +74,7 @@ pub fn unary_of(alloc: Global, operator: UnaryOperator, operand: Expr) -> Result
 
 pub fn binary_of(
     alloc: Global,
-    operator: BinaryOperator,
+    operator: Operator,
     left: Expr,
     right: Expr,
 ) -> Result<Expr, AllocError>

@@ -1,5 +1,6 @@
 // The syntax tree of a program. Brackets are nodes, so that a tree has one spelling.
 
+use crate::operator::{Operator, Origin};
 use strc_lex_names::name::{Name, StringLiteral};
 use strc_lex_names::place::Span;
 
@@ -233,7 +234,7 @@ pub enum Expr {
     /// `pop()`
     Pop,
     /// `peek(i)`
-    Peek(Box<Expr>),
+    Peek(Origin, Box<Expr>),
     /// `f(a, b)`: a call of a helper function
     Call(Name, Vec<Expr>),
     /// `(e)`
@@ -245,7 +246,7 @@ pub enum Expr {
     /// `x[i]++`
     StepElement(StepOperator, Name, Box<Expr>),
     /// `a + b`
-    Binary(BinaryOperator, Box<Expr>, Box<Expr>),
+    Binary(Operator, Box<Expr>, Box<Expr>),
     /// `c ? a : b`
     Conditional(Box<Expr>, Box<Expr>, Box<Expr>),
 }
@@ -496,7 +497,7 @@ impl Drop for Expr {
             | Expr::Read(_)
             | Expr::Element(_, _)
             | Expr::Pop
-            | Expr::Peek(_)
+            | Expr::Peek(_, _)
             | Expr::Call(_, _)
             | Expr::Group(_)
             | Expr::Unary(_, _)

@@ -38,7 +38,7 @@ pub(crate) fn check_peeks_in_expression(
         }
         Expr::Pop => Ok(Some(one_pop())),
         Expr::Call(_, arguments) => check_peeks_in_arguments(arguments, names, popped, sites),
-        Expr::Peek(index) => check_peek(index, names, popped, sites),
+        Expr::Peek(_, index) => check_peek(index, names, popped, sites),
         Expr::Element(_, inner)
         | Expr::Group(inner)
         | Expr::Unary(_, inner)
@@ -46,7 +46,7 @@ pub(crate) fn check_peeks_in_expression(
             check_peeks_in_expression(inner, names, popped, sites)
         }
         Expr::Binary(operator, left, right) => {
-            let need = need_of(*operator, left);
+            let need = need_of(operator.kind(), left);
             check_peeks_in_operands(need, left, right, names, popped, sites)
         }
         Expr::Conditional(condition, chosen, other) => {

@@ -131,7 +131,7 @@ pub(crate) fn skip_expression(value: &Expr, sites: &mut Vec<PeekSite>) -> Result
     match value {
         Expr::Number(_) | Expr::Truth(_) | Expr::Read(_) | Expr::Pop | Expr::Step(_, _) => Ok(()),
         Expr::Call(_, arguments) => skip_arguments(arguments, sites),
-        Expr::Peek(index) => skip_peek(index, sites),
+        Expr::Peek(_, index) => skip_peek(index, sites),
         Expr::Element(_, inner)
         | Expr::Group(inner)
         | Expr::Unary(_, inner)

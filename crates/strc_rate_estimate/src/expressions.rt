@@ -22,7 +22,7 @@ pub(crate) fn expression_estimate(value: &Expr, helpers: &[HelperEstimate<'_>]) 
             arguments_estimate(arguments, helpers),
         ),
         Expr::Group(inner) => expression_estimate(inner, helpers),
-        Expr::Peek(inner)
+        Expr::Peek(_, inner)
         | Expr::Element(_, inner)
         | Expr::Unary(_, inner)
         | Expr::StepElement(_, _, inner) => sum(1, expression_estimate(inner, helpers)),

@@ -35,7 +35,7 @@ fn is_constant(value: &Expr) -> bool
         Expr::Read(_)
         | Expr::Element(_, _)
         | Expr::Pop
-        | Expr::Peek(_)
+        | Expr::Peek(_, _)
         | Expr::Call(_, _)
         | Expr::Step(_, _)
         | Expr::StepElement(_, _, _) => false,

@@ -29,7 +29,7 @@ pub fn interval_of(value: &Expr, names: &IntervalScope) -> Option<Interval>
             None => {
                 let left = interval_of(left, names)?;
                 let right = interval_of(right, names)?;
-                binary_interval(*operator, left, right)
+                binary_interval(operator.kind(), left, right)
             }
         },
         Expr::Conditional(_, _, _) => match constant(value) {
@@ -39,7 +39,7 @@ pub fn interval_of(value: &Expr, names: &IntervalScope) -> Option<Interval>
         Expr::Truth(_)
         | Expr::Element(_, _)
         | Expr::Pop
-        | Expr::Peek(_)
+        | Expr::Peek(_, _)
         | Expr::Call(_, _)
         | Expr::Step(_, _)
         | Expr::StepElement(_, _, _) => None,

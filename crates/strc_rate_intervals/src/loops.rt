@@ -127,12 +127,12 @@ fn bound_of(condition: &Expr, name: &Name) -> Option<Bound>
 {
     match condition {
         Expr::Binary(operator, left, right) => {
-            if !(is_order(*operator) && is_variable(left, name)) {
+            if !(is_order(operator.kind()) && is_variable(left, name)) {
                 return None;
             }
             let limit = constant(right)?;
             Some(Bound {
-                operator: *operator,
+                operator: operator.kind(),
                 limit,
             })
         }
@@ -219,7 +219,7 @@ fn sum_move(value: &Expr, name: &Name) -> Option<i64>
     match value {
         Expr::Binary(operator, left, right) => {
             if is_variable(left, name) {
-                moved_by(*operator, right)
+                moved_by(operator.kind(), right)
             } else {
                 None
             }

@@ -192,7 +192,7 @@ impl Machine {
             Err(Halt::Fault(cause)) => Err(Stop::Fault {
                 node: batch.node,
                 firing,
-                cause,
+                cause: self.located(batch.node, cause),
             }),
             Err(Halt::NoMemory) => Err(Stop::NoMemory),
         }

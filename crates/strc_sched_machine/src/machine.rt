@@ -29,7 +29,7 @@ use strc_lex_names::memory::NoMemory;
 use strc_sched_rings::circuit::Circuit;
 use strc_sched_rings::copy::fire_identity_copy;
 use strc_sched_rings::ring::{Ring, first_rings};
-use strc_work_meaning::fault::{Cause, Halt};
+use strc_work_meaning::fault::{Cause, Halt, LocatedCause, Trapped};
 use strc_work_meaning::word::Word;
 
 /// What a run has come to.
@@ -48,13 +48,13 @@ pub struct Machine {
 }
 
 /// Why a run ends early.
-#[derive(Clone, Copy)]
+#[derive(Drop)]
 pub enum Stop {
     /// A firing of a node, by its number, faulted.
     Fault {
         node: u32,
         firing: u64,
-        cause: Cause,
+        cause: LocatedCause,
     },
     NoMemory,
 }
@@ -269,10 +269,22 @@ impl Machine {
             Err(Halt::Fault(cause)) => Err(Stop::Fault {
                 node: batch.node,
                 firing,
-                cause,
+                cause: self.located(batch.node, cause),
             }),
             Err(Halt::NoMemory) => Err(Stop::NoMemory),
         }
+    }
+
+    /// Why a node's firing has faulted just now, with what is known of what faulted.
+    #[inline(never)]
+    pub(crate) fn located(&self, node: u32, cause: Cause) -> LocatedCause
+        ensures { result ≡ cause }
+    {
+        let trapped = match self.actors.get(node as usize) {
+            Some(Actor::Filter(actor)) => actor.frame.trapped(),
+            _ => Trapped::nothing(),
+        };
+        LocatedCause::new(cause, trapped)
     }
 
     /// One firing of a batch's node, by its number. Whether it found its windows; if not, it leaves

@@ -1,6 +1,6 @@
 // How a run ends.
 
-use strc_work_meaning::fault::Cause;
+use strc_work_meaning::fault::LocatedCause;
 use strc_work_meaning::word::Word;
 
 /// The words that a node gives: a program has one tape for each node that prints or writes, in
@@ -23,7 +23,7 @@ pub enum Outcome {
         /// How often it had fired before, since the beginning.
         firing: u64,
         round: Round,
-        cause: Cause,
+        cause: LocatedCause,
         tapes: Vec<Tape>,
     },
 }

@@ -25,7 +25,7 @@ use strc_sched_outcome::run_refusal::RunRefusal;
 use strc_stage_core::Stop;
 use strc_stage_plan::plan::Plan;
 use strc_stage_steps::CollectorParts;
-use strc_work_meaning::fault::Cause;
+use strc_work_meaning::fault::LocatedCause;
 use strc_work_meaning::word::Word;
 
 /// The outcome of a plan's rounds whose collector has come to its end, by the nodes before fission.
@@ -94,7 +94,7 @@ pub fn faulted(
     nodes: &[Node],
     node: u32,
     firing: u64,
-    cause: Cause,
+    cause: LocatedCause,
 ) -> Result<Outcome, RunRefusal>
     ensures ending { IfOk result (IsTold (map node_view nodes.now)
         (StartupFault (stop_at node firing cause))) }

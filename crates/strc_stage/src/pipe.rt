@@ -25,7 +25,7 @@ use strc_sched_outcome::run_refusal::RunRefusal;
 use strc_stage_cut::{Launch, Ring, Stages, launch};
 use strc_stage_plan::plan::Plan;
 use strc_stage_steps::{Collector, Event, Parts, Stage};
-use strc_work_meaning::fault::Cause;
+use strc_work_meaning::fault::LocatedCause;
 
 /// The stages of a plan after start-up, in whatever state events have led to.
 #[derive(Drop)]
@@ -48,7 +48,7 @@ pub enum State {
     Faulted {
         node: u32,
         firing: u64,
-        cause: Cause,
+        cause: LocatedCause,
     },
 }
 

@@ -76,7 +76,10 @@ impl Parcel {
     pub fn stop(&self) -> Option<Stop>
         ensures { result ≡ self.now.stop }
     {
-        self.stop
+        match &self.stop {
+            Some(stop) => Some(stop.copy()),
+            None => None,
+        }
     }
 
     /// Is it marked as the last?

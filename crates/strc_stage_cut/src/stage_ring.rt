@@ -22,7 +22,7 @@ use strc_sched_rings::circuit::Circuit;
 use strc_stage_core::Parcel;
 use strc_stage_plan::plan::Plan;
 use strc_stage_steps::{Collector, Stage};
-use strc_work_meaning::fault::Cause;
+use strc_work_meaning::fault::LocatedCause;
 
 /// The stages of a plan, the free parcels and the collector.
 #[derive(Drop)]
@@ -39,7 +39,7 @@ pub enum Launch {
     Faulted {
         node: u32,
         firing: u64,
-        cause: Cause,
+        cause: LocatedCause,
     },
 }
 

@@ -14,7 +14,7 @@ use strc_sched_machine::machine::{Machine, Stop};
 use strc_sched_rings::circuit::Circuit;
 use strc_stage_plan::plan::Plan;
 use strc_stage_steps::dealt_state::deal_out;
-use strc_work_meaning::fault::Cause;
+use strc_work_meaning::fault::LocatedCause;
 
 /// What start-up of a plan comes to: the machine of the graph after fission, ready for the first
 /// round, with its circuit; or a fault, which names a node of the graph before fission.
@@ -27,7 +27,7 @@ pub enum Startup {
     Faulted {
         node: u32,
         firing: u64,
-        cause: Cause,
+        cause: LocatedCause,
     },
 }
 

@@ -24,7 +24,7 @@ pub(crate) fn gather(parts: &mut CollectorParts, parcel: Parcel) -> Parcel
     ensures collects { Collects stage_work (sees parts.old) parcel (sees parts.new) result }
 {
     let stop = add_words(parts, &parcel);
-    parts.stop = first_of(parts.stop, stop);
+    parts.stop = first_of(&parts.stop, &stop);
     parts.taken += 1;
     parts.finished = parcel.last();
     given_back(parcel, stop)
@@ -53,12 +53,12 @@ fn add_words(parts: &mut CollectorParts, parcel: &Parcel) -> Option<Stop>
 }
 
 /// The first of two stops.
-fn first_of(own: Option<Stop>, other: Option<Stop>) -> Option<Stop>
-    ensures { result ≡ or_else own other }
+fn first_of(own: &Option<Stop>, other: &Option<Stop>) -> Option<Stop>
+    ensures { result ≡ or_else own.now other.now }
 {
-    match own {
-        Some(stop) => Some(stop),
-        None => other,
+    match (own, other) {
+        (Some(stop), _) | (None, Some(stop)) => Some(stop.copy()),
+        (None, None) => None,
     }
 }
 

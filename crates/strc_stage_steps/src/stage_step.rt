@@ -60,15 +60,15 @@ fn run(stage: &mut StageParts, alloc: Global, parcel: &mut Parcel)
         stage.stop = parcel.stop();
         return;
     }
-    if let Some(stop) = stage.stop {
-        parcel.set_stop(stop);
+    if let Some(stop) = &stage.stop {
+        parcel.set_stop(stop.copy());
         return;
     }
     if let Some(stop) = work(stage, alloc, parcel) {
         stage.broken = true;
-        stage.stop = Some(stop);
         parcel.empty();
-        parcel.set_stop(stop);
+        parcel.set_stop(stop.copy());
+        stage.stop = Some(stop);
     }
 }
 

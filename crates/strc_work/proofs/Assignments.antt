@@ -171,7 +171,7 @@ set_goes_on setting name index value names store slots first m1 named closed clo
     let base = slot_of names name in
     let c = operand_nodes names true value free in
     let at_value = operand_slot names true value free in
-    let last = act.Store base (size_of names name) from at_value in
+    let last = act.Store base (size_of names name) from at_value 0 in
     let room_c : nodes_room c ≤ length slots = omega (arith, nodes_room-before c (one last)) in
     let size1 = in_slot1.size in
     let roomy = ready.roomy in
@@ -222,7 +222,7 @@ joined_by_result : (setting : Setting) (names : Scope) (name : List ℕ) (size f
     → place_in (size_of names name) index ≡ Some place
     → Related (Reaches names size) (result_and_then r (λ new. Ok (cell_set store name place new)))
     (result_and_then (result_and_then r (λ value. Ok (slot_written m free value)))
-    (nodes_done setting (one (act.Store (slot_of names name) (size_of names name) from free))))
+    (nodes_done setting (one (act.Store (slot_of names name) (size_of names name) from free 0))))
 joined_by_result setting names name size from free place index store m
     (Err cause) named roomy traffic names_are holds same above low within lt index_is place_is =
     refl
@@ -287,14 +287,14 @@ joined_goes_on : (setting : Setting) (name : List ℕ) (operator : BinaryOperato
     (λ given. result_and_then (binary_value operator old given.0)
     (λ new. Ok (cell_set given.1 name place new))))
     (nodes_done setting (before c (Act (binary_step operator free free at_value)
-    (one (act.Store base size from free)))) m1)
+    (one (act.Store base size from free 0)))) m1)
 joined_goes_on setting name operator index value names store slots first m1 place old named closed
     closed' stands ready room_c within lt place_is old_is in_slot1 =
     let free = total names + 1 in
     let from = operand_slot names (writes_no_variable value) index (total names) in
     let c = operand_nodes names true value (free + 1) in
     let at_value = operand_slot names true value (free + 1) in
-    let store_code = one (act.Store (slot_of names name) (size_of names name) from free) in
+    let store_code = one (act.Store (slot_of names name) (size_of names name) from free 0) in
     let rest = Act (binary_step operator free free at_value) store_code in
     let size1 = in_slot1.size in
     let roomy = ready.roomy in
@@ -376,7 +376,7 @@ compound_by_place setting name operator index value names store slots first m1 N
     let c = operand_nodes names true value (free + 1) in
     let at_value = operand_slot names true value (free + 1) in
     let rest = before c (Act (binary_step operator free free at_value)
-    (one (act.Store base (size_of names name) from free))) in
+    (one (act.Store base (size_of names name) from free 0))) in
     let loads : Option ℕ → Result Machine Cause =
     λ p. result_and_then (result_and_then (tested_place p)
     (λ place. Ok (slot_written m1 free (slot_value m1 (base + place)))))
@@ -392,7 +392,7 @@ compound_by_place setting name operator index value names store slots first m1
     let c = operand_nodes names true value (free + 1) in
     let at_value = operand_slot names true value (free + 1) in
     let last = Act (binary_step operator free free at_value)
-    (one (act.Store base (size_of names name) from free)) in
+    (one (act.Store base (size_of names name) from free 0)) in
     let rest = before c last in
     let size1 = in_slot1.size in
     let room_c : nodes_room c ≤ length slots = omega (arith, nodes_room-before c last) in

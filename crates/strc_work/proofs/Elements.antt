@@ -133,7 +133,7 @@ element_runs setting name index run names into free store slots closed stands re
     let a = operand_nodes names true index free in
     let from = operand_slot names true index free in
     let base = slot_of names name in
-    let last = act.Load into base (size_of names name) from in
+    let last = act.Load into base (size_of names name) from 0 in
     let room_a : nodes_room a ≤ length slots = omega (arith, nodes_room-before a (one last)) in
     let meant_last : ℤ × Store → Result (ℤ × Store) Cause =
     λ given. result_and_then (place_of given.1 name given.0)
@@ -191,7 +191,7 @@ stepped_code setting operator base size from into f place old new m place_is old
     let slots = m.slots in
     let amount = step_amount operator in
     let rest3 = one (act.Copy into (step_result operator f (f + 1))) in
-    let rest2 = Act (act.Store base size from (f + 1)) rest3 in
+    let rest2 = Act (act.Store base size from (f + 1) 0) rest3 in
     let rest1 = Act (act.AddConst (f + 1) f amount) rest2 in
     let m1 = slot_written m f old in
     let m2 = slot_written m1 (f + 1) new in
@@ -252,7 +252,7 @@ step_element_arrives : (setting : Setting) (operator : StepOperator) (names : Sc
 step_element_arrives setting operator names name into from free before given m None named above
     roomy low room below place_is in_slot =
     let rest = Act (act.AddConst (free + 1 + 1) (free + 1) (step_amount operator))
-    (Act (act.Store (slot_of names name) (size_of names name) from (free + 1 + 1))
+    (Act (act.Store (slot_of names name) (size_of names name) from (free + 1 + 1) 0)
     (one (act.Copy into (step_result operator (free + 1) (free + 1 + 1))))) in
     let loads : Option ℕ → Result Machine Cause =
     λ o. result_and_then (result_and_then (tested_place o)

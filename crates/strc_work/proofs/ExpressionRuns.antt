@@ -277,7 +277,7 @@ peek_runs : (setting : Setting) (index : tree.Expr) → Runs setting index → R
 peek_runs setting index run names into free store slots closed stands ready room =
     let a = operand_nodes names true index free in
     let from = operand_slot names true index free in
-    let last = act.Peek into from in
+    let last = act.Peek into from 0 in
     let room_a : nodes_room a ≤ length slots = omega (arith, nodes_room-before a (one last)) in
     let meant_last : ℤ × Store → Result (ℤ × Store) Cause =
     λ place. result_and_then (peeked_from setting.port place.0 place.1.traffic)

@@ -478,7 +478,7 @@ expr_room names (tree.Truth value) into free closed = omega arith
 expr_room names (tree.Read name) into free closed = omega arith
 expr_room names (tree.Element name index) into free closed =
     let slot = unwrap_or (variable_slot names index) free in
-    let last = one (act.Load into (slot_of names name) (size_of names name) slot) in
+    let last = one (act.Load into (slot_of names name) (size_of names name) slot 0) in
     omega (
       arith,
       nodes_room-before (unless_there (variable_slot names index)
@@ -496,7 +496,7 @@ expr_room names (tree.Peek index) into free closed =
     omega (
       arith,
       nodes_room-before (unless_there (variable_slot names index)
-          (expr_nodes names index free (free + 1))) (one (act.Peek into slot)),
+          (expr_nodes names index free (free + 1))) (one (act.Peek into slot 0)),
     )
 expr_room names (tree.Group inner) into free closed = expr_room names inner into free closed
 expr_room names (tree.Unary operator operand) into free closed =

@@ -163,13 +163,13 @@ mutual
       let o = variable_slot names index in
       let a = expr_nodes names index free (free + 1) in
       silent-before (unless_there o a) (one
-      (act.Load into (slot_of names name) (size_of names name) (unwrap_or o free)))
+      (act.Load into (slot_of names name) (size_of names name) (unwrap_or o free) 0))
       (unless_there_silent o a (expr_silent names index free (free + 1)))
   expr_silent names tree.Pop into free = refl
   expr_silent names (tree.Peek index) into free =
       let o = variable_slot names index in
       let a = expr_nodes names index free (free + 1) in
-      silent-before (unless_there o a) (one (act.Peek into (unwrap_or o free)))
+      silent-before (unless_there o a) (one (act.Peek into (unwrap_or o free) 0))
       (unless_there_silent o a (expr_silent names index free (free + 1)))
   expr_silent names (tree.Call name arguments) into free =
       silent-before (arguments_nodes names arguments free)
@@ -294,7 +294,7 @@ compound_silent : (names : Scope) (name : List ℕ) (index : ℕ) (operator : Bi
 compound_silent names name index operator value free =
     let c = operand_nodes names true value (free + 1) in
     let last = binary_step operator free free (operand_slot names true value (free + 1)) in
-    let store = one (act.Store (slot_of names name) (size_of names name) index free) in
+    let store = one (act.Store (slot_of names name) (size_of names name) index free 0) in
     silent-before c (Act last store) (operand_silent names true value (free + 1))
     ∙ binary_silent operator free free (operand_slot names true value (free + 1))
 
@@ -304,7 +304,7 @@ element_silent : (names : Scope) (name : List ℕ) (index : ℕ) (operator : Ass
 element_silent names name index assign.Set value free =
     silent-before (operand_nodes names true value free)
     (one (act.Store (slot_of names name) (size_of names name) index
-    (operand_slot names true value free))) (operand_silent names true value free)
+    (operand_slot names true value free) 0)) (operand_silent names true value free)
 element_silent names name index assign.Add value free =
     compound_silent names name index binary.Add value free
 element_silent names name index assign.Subtract value free =

@@ -4,6 +4,7 @@ ghost use Rattle.std.specs.Prelude.{◌≡◌};
 
 use std::marker::Model;
 use strc_work_instructions::io::FiringIo;
+use strc_work_meaning::fault::Trapped;
 
 /// The items that a firing has pushed, with room for as many as it may push, and room for the
 /// locals of callers that wait for their calls. Contracts see the items and both rooms.
@@ -33,5 +34,10 @@ impl Frame {
         ensures { result.now ≡ self.now.items }
     {
         self.io.pushes()
+    }
+
+    /// What is known of what faulted in the last firing.
+    pub fn trapped(&self) -> Trapped {
+        self.io.trapped()
     }
 }

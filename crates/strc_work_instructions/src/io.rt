@@ -12,11 +12,12 @@ use crate::window::Window;
 use std::alloc::Global;
 use std::marker::Model;
 use std::mem;
-use strc_work_meaning::fault::TURN_LIMIT;
+use strc_work_meaning::fault::{TURN_LIMIT, Trapped};
 use strc_work_meaning::word::Word;
 
 /// The items that a firing has popped and pushed, the words that it has printed, and the turns that
-/// its loops have made. It has a buffer for the items that are pushed.
+/// its loops have made. It has a buffer for the items that are pushed, and notes what trapped, of
+/// which contracts see nothing.
 #[derive(Drop)]
 pub struct FiringIo {
     popped: u32,
@@ -24,6 +25,7 @@ pub struct FiringIo {
     turns: u32,
     buffer: Vec<i32>,
     words: Vec<Word>,
+    trapped: Trapped,
 }
 
 impl Model for FiringIo {
@@ -58,6 +60,7 @@ impl FiringIo {
             turns: 0,
             buffer,
             words: Vec::new(alloc),
+            trapped: Trapped::nothing(),
         }
     }
 
@@ -80,6 +83,31 @@ impl FiringIo {
         ensures room { self.new.room ≡ self.old.room }
     {
         mem::swap(&mut self.words, words);
+    }
+
+    /// The same answer; where it is a trap, it is noted where the instruction is written, which
+    /// element or item it sought, and how many there are.
+    #[inline(always)]
+    pub fn noted(
+        &mut self,
+        answer: Result<(), Trap>,
+        mark: u32,
+        index: i32,
+        count: u32,
+    ) -> Result<(), Trap>
+        ensures answer { result ≡ answer }
+        ensures unchanged { self.new ≡ self.old }
+    {
+        if answer.is_err() {
+            self.trapped = Trapped { mark, index, count };
+        }
+        answer
+    }
+
+    /// What was noted of the instruction that trapped; nothing where none has, or where it wasn't
+    /// noted.
+    pub fn trapped(&self) -> Trapped {
+        self.trapped
     }
 
     /// The items that are pushed, in order.

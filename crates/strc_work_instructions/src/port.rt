@@ -53,6 +53,12 @@ impl<'a, W: Window> FiringPort<'a, W> {
         look_ahead(place, popped, self.limits, self.window)
     }
 
+    /// How many items of the window are ahead, where so many are popped.
+    #[inline(always)]
+    pub fn left(&self, popped: u32) -> u32 {
+        self.limits.peek.saturating_sub(popped)
+    }
+
     /// How many items may be pushed.
     #[inline(always)]
     pub fn room(&self) -> usize

@@ -189,7 +189,7 @@ pub element_set_nodes : (names : Scope) (name : List ℕ) (index : ℕ) (operato
     (value : tree.Expr) (free : ℕ) → compound_of operator ≡ None
     → before (operand_nodes names true value free)
     (one (act.Store (slot_of names name) (size_of names name) index
-    (operand_slot names true value free))) ≡ element_nodes names name index operator value free
+    (operand_slot names true value free) 0)) ≡ element_nodes names name index operator value free
 element_set_nodes names name index assign.Set value free e = refl
 element_set_nodes names name index assign.Add value free e = absurd (cc)
 element_set_nodes names name index assign.Subtract value free e = absurd (cc)

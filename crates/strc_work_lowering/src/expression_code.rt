@@ -21,6 +21,7 @@ use crate::operands::{
 };
 use strc_lex_names::memory::NoMemory;
 use strc_lex_names::name::Name;
+use strc_parse_tree::operator::{Operator, mark_of_name};
 use strc_parse_tree::tree::{AssignOperator, BinaryOperator, Expr, StepOperator, UnaryOperator};
 use strc_work_code::call::Call;
 use strc_work_code::inst::Inst;
@@ -54,15 +55,17 @@ pub fn emit_expr(
         Expr::Truth(value) => code.put(Inst::Const(into, truth(*value))),
         Expr::Read(name) => code.put(Inst::Copy(into, names.slot_of(name))),
         Expr::Pop => code.put(Inst::Pop(into)),
-        Expr::Peek(index) => emit_use(code, names, Use::Peek, index, into, free),
+        Expr::Peek(origin, index) => {
+            emit_use(code, names, Use::Peek, origin.mark(), index, into, free)
+        }
         Expr::Call(name, arguments) => emit_call(code, names, name, arguments, into, free),
         Expr::Group(inner) => emit_expr(code, names, inner, into, free),
         Expr::Unary(operator, operand) => {
-            emit_use(code, names, Use::Unary(*operator), operand, into, free)
+            emit_use(code, names, Use::Unary(*operator), 0, operand, into, free)
         }
         Expr::Step(operator, name) => emit_step(code, *operator, names.slot_of(name), into, free),
         Expr::Binary(operator, left, right) => {
-            emit_binary(code, names, *operator, left, right, into, free)
+            emit_binary(code, names, operator, left, right, into, free)
         }
         Expr::Conditional(condition, chosen, other) => {
             emit_conditional(code, names, condition, chosen, other, into, free)
@@ -72,14 +75,24 @@ pub fn emit_expr(
                 slot: names.slot_of(name),
                 cells: names.size_of(name),
             };
-            emit_use(code, names, Use::Load(place), index, into, free)
+            let mark = mark_of_name(name);
+            emit_use(code, names, Use::Load(place), mark, index, into, free)
         }
         Expr::StepElement(operator, name, index) => {
             let place = Place {
                 slot: names.slot_of(name),
                 cells: names.size_of(name),
             };
-            emit_use(code, names, Use::Step(*operator, place), index, into, free)
+            let mark = mark_of_name(name);
+            emit_use(
+                code,
+                names,
+                Use::Step(*operator, place),
+                mark,
+                index,
+                into,
+                free,
+            )
         }
     }
 }
@@ -131,13 +144,14 @@ fn emit_arguments(
     Ok(slot)
 }
 
-/// The code of an operand, and what is done with it.
+/// The code of an operand, and what is done with it, which is written at this mark.
 #[cycle(expression)]
 #[tactic(auto, using(strc_work_code::proofs::Nodes::before_assoc))]
 fn emit_use(
     code: &mut Builder,
     names: &Layout,
     kind: Use,
+    mark: u32,
     operand: &Expr,
     into: u32,
     free: u32,
@@ -148,7 +162,7 @@ fn emit_use(
         free))) }
 {
     let from = emit_operand(code, names, operand, true, free)?;
-    emit_used(code, names, kind, from, into, free)
+    emit_used(code, names, kind, mark, from, into, free)
 }
 
 /// The code of an expression apart from other code, to be written beside it.
@@ -167,17 +181,17 @@ fn emit_apart(names: &Layout, value: &Expr, into: u32, free: u32) -> Result<Buil
 fn emit_binary(
     code: &mut Builder,
     names: &Layout,
-    operator: BinaryOperator,
+    operator: &Operator,
     left: &Expr,
     right: &Expr,
     into: u32,
     free: u32,
 ) -> Result<(), NoMemory>
     ensures { OnOk result (written code.new ≡ before (written code.old)
-        (spec.expr_nodes names.now (tree.Binary operator (expr_view left.now)
+        (spec.expr_nodes names.now (tree.Binary operator.now (expr_view left.now)
         (expr_view right.now)) into free)) }
 {
-    match operator {
+    match operator.kind() {
         BinaryOperator::LogicalOr => emit_logical(code, names, true, left, right, into, free),
         BinaryOperator::LogicalAnd => emit_logical(code, names, false, left, right, into, free),
         _ => emit_operator(code, names, operator, left, right, into, free),
@@ -214,19 +228,22 @@ fn emit_logical(
 fn emit_operator(
     code: &mut Builder,
     names: &Layout,
-    operator: BinaryOperator,
+    operator: &Operator,
     left: &Expr,
     right: &Expr,
     into: u32,
     free: u32,
 ) -> Result<(), NoMemory>
     ensures { OnOk result (written code.new ≡ before (written code.old)
-        (operator_nodes names.now operator (expr_view left.now) (expr_view right.now) into
+        (operator_nodes names.now operator.now (expr_view left.now) (expr_view right.now) into
         free)) }
 {
     let left = emit_operand(code, names, left, writes_no_variable(right), free)?;
     let right = emit_operand(code, names, right, true, names.after(free)?)?;
-    code.put(binary_step(operator, into, left, right))
+    code.put_at(
+        binary_step(operator.kind(), into, left, right),
+        operator.origin().mark(),
+    )
 }
 
 /// The code of an expression that is one of two by a condition.
@@ -276,11 +293,12 @@ pub fn emit_operand(
     Ok(free)
 }
 
-/// The code of what is done with an operand that is in a slot.
+/// The code of what is done with an operand that is in a slot, written at this mark.
 fn emit_used(
     code: &mut Builder,
     names: &Layout,
     kind: Use,
+    mark: u32,
     from: u32,
     into: u32,
     free: u32,
@@ -289,11 +307,13 @@ fn emit_used(
         (use_nodes kind from into free)) }
 {
     match kind {
-        Use::Peek => code.put(Inst::Peek(into, from)),
+        Use::Peek => code.put_at(Inst::Peek(into, from, 0), mark),
         Use::Unary(operator) => code.put(unary_step(operator, into, from)),
-        Use::Load(place) => code.put(Inst::Load(into, place.slot, place.cells, from)),
+        Use::Load(place) => {
+            code.put_at(Inst::Load(into, place.slot, place.cells, from, 0), mark)
+        }
         Use::Step(operator, place) => {
-            emit_element_step(code, operator, place, from, into, names.after(free)?)
+            emit_element_step(code, operator, place, mark, from, into, names.after(free)?)
         }
     }
 }
@@ -329,6 +349,7 @@ fn emit_element_step(
     code: &mut Builder,
     operator: StepOperator,
     place: Place,
+    mark: u32,
     index: u32,
     into: u32,
     free: u32,
@@ -337,9 +358,9 @@ fn emit_element_step(
         (spec.element_step_nodes operator place.slot place.cells index into free)) }
 {
     let new = slot_past(*code.line.allocator(), free, 1)?;
-    code.put(Inst::Load(free, place.slot, place.cells, index))?;
+    code.put_at(Inst::Load(free, place.slot, place.cells, index, 0), mark)?;
     code.put(Inst::AddConst(new, free, step_amount(operator)))?;
-    code.put(Inst::Store(place.slot, place.cells, index, new))?;
+    code.put_at(Inst::Store(place.slot, place.cells, index, new, 0), mark)?;
     code.put(Inst::Copy(into, step_result(operator, free, new)))
 }
 
@@ -383,7 +404,7 @@ pub fn emit_assign(
         Some(operator) => {
             let left = save_old_value(code, into, writes_no_variable(value), free)?;
             let right = emit_operand(code, names, value, true, names.after(free)?)?;
-            code.put(binary_step(operator, into, left, right))
+            code.put_at(binary_step(operator, into, left, right), mark_of_name(name))
         }
     }
 }
@@ -452,7 +473,8 @@ fn emit_element(
     match compound_operator(operator) {
         None => {
             let from = emit_operand(code, names, value, true, free)?;
-            code.put(Inst::Store(names.slot_of(name), names.size_of(name), index, from))
+            let store = Inst::Store(names.slot_of(name), names.size_of(name), index, from, 0);
+            code.put_at(store, mark_of_name(name))
         }
         Some(operator) => emit_compound(code, names, name, index, operator, value, free),
     }
@@ -475,8 +497,9 @@ fn emit_compound(
 {
     let slot = names.slot_of(name);
     let cells = names.size_of(name);
-    code.put(Inst::Load(free, slot, cells, index))?;
+    let mark = mark_of_name(name);
+    code.put_at(Inst::Load(free, slot, cells, index, 0), mark)?;
     let right = emit_operand(code, names, value, true, names.after(free)?)?;
-    code.put(binary_step(operator, free, free, right))?;
-    code.put(Inst::Store(slot, cells, index, free))
+    code.put_at(binary_step(operator, free, free, right), mark)?;
+    code.put_at(Inst::Store(slot, cells, index, free, 0), mark)
 }

@@ -55,7 +55,7 @@ pub fn variable_slot(names: &Layout, value: &Expr) -> Option<u32>
         | Expr::Truth(_)
         | Expr::Element(_, _)
         | Expr::Pop
-        | Expr::Peek(_)
+        | Expr::Peek(_, _)
         | Expr::Call(_, _)
         | Expr::Unary(_, _)
         | Expr::Step(_, _)
@@ -71,7 +71,7 @@ pub fn writes_no_variable(value: &Expr) -> bool
 {
     match value {
         Expr::Number(_) | Expr::Truth(_) | Expr::Read(_) | Expr::Pop => true,
-        Expr::Element(_, index) | Expr::Peek(index) => writes_no_variable(index),
+        Expr::Element(_, index) | Expr::Peek(_, index) => writes_no_variable(index),
         Expr::Group(inner) => writes_no_variable(inner),
         Expr::Unary(_, operand) => writes_no_variable(operand),
         Expr::Call(_, _) | Expr::Step(_, _) | Expr::StepElement(_, _, _) => false,
@@ -161,7 +161,7 @@ pub fn binary_step(operator: BinaryOperator, into: u32, left: u32, right: u32) -
         BinaryOperator::Add => Inst::Add(into, left, right),
         BinaryOperator::Subtract => Inst::Subtract(into, left, right),
         BinaryOperator::Multiply => Inst::Multiply(into, left, right),
-        BinaryOperator::Divide => Inst::Divide(into, left, right),
-        BinaryOperator::Remainder => Inst::Remainder(into, left, right),
+        BinaryOperator::Divide => Inst::Divide(into, left, right, 0),
+        BinaryOperator::Remainder => Inst::Remainder(into, left, right, 0),
     }
 }

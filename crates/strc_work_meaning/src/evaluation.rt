@@ -23,11 +23,11 @@ pub fn constant_value(value: &Expr) -> Result<i32, Cause>
         },
         Expr::Binary(operator, left, right) => match constant_value(left) {
             Ok(left) => {
-                if decides(*operator, left) {
+                if decides(operator.kind(), left) {
                     return Ok(left);
                 }
                 match constant_value(right) {
-                    Ok(right) => binary_value(*operator, left, right),
+                    Ok(right) => binary_value(operator.kind(), left, right),
                     Err(cause) => Err(cause),
                 }
             }
@@ -46,7 +46,7 @@ pub fn constant_value(value: &Expr) -> Result<i32, Cause>
         Expr::Read(_)
         | Expr::Element(_, _)
         | Expr::Pop
-        | Expr::Peek(_)
+        | Expr::Peek(_, _)
         | Expr::Call(_, _)
         | Expr::Step(_, _)
         | Expr::StepElement(_, _, _) => Err(Cause::Index),

@@ -1,5 +1,6 @@
 // How a firing can end without a result.
 
+use std::marker::Model;
 use std::{error, fmt};
 use thiserror::Error;
 
@@ -43,6 +44,83 @@ impl fmt::Display for Cause {
 }
 
 impl error::Error for Cause {}
+
+/// What is known of what faulted beyond the cause, for those who read of it. No contract rests on it.
+#[derive(Clone, Copy, Debug)]
+pub struct Trapped {
+    /// Where the operator or the array is written: one more than the number of its first byte; 0
+    /// where that isn't known.
+    pub mark: u32,
+    /// The index of the element, or how far ahead the item is, that isn't there.
+    pub index: i32,
+    /// How many there are.
+    pub count: u32,
+}
+
+impl Trapped {
+    /// Nothing is known.
+    pub fn nothing() -> Trapped {
+        Trapped {
+            mark: 0,
+            index: 0,
+            count: 0,
+        }
+    }
+}
+
+/// Why a firing faults, and what is known of what faulted. Contracts see the cause alone.
+#[derive(Debug, Drop)]
+pub struct LocatedCause {
+    cause: Cause,
+    trapped: Trapped,
+}
+
+impl Model for LocatedCause {
+    ghost use Rattle.strc_work_meaning.specs.declared.fault.Cause.{Cause};
+
+    ghost Value = { Cause };
+
+    ghost view = { λ l. l.cause };
+}
+
+impl LocatedCause {
+    ghost use Rattle.std.specs.Prelude.{◌≡◌};
+
+    /// The cause, with what is known of what faulted.
+    pub fn new(cause: Cause, trapped: Trapped) -> LocatedCause
+        ensures { result ≡ cause }
+    {
+        LocatedCause { cause, trapped }
+    }
+
+    /// The cause.
+    pub fn cause(&self) -> Cause
+        ensures { result ≡ self.now }
+    {
+        self.cause
+    }
+
+    /// What is known of what faulted.
+    pub fn trapped(&self) -> Trapped {
+        self.trapped
+    }
+
+    /// The number of the byte where what faulted begins, if it is known.
+    pub fn byte(&self) -> Option<usize> {
+        let byte = self.trapped.mark.checked_sub(1)?;
+        Some(byte as usize)
+    }
+
+    /// An equal one, of what is written at the same place.
+    pub fn copy(&self) -> LocatedCause
+        ensures { result ≡ self.now }
+    {
+        LocatedCause {
+            cause: self.cause,
+            trapped: self.trapped,
+        }
+    }
+}
 
 /// Why a firing stopped.
 #[derive(Clone, Copy, Debug, Error)]

@@ -50,9 +50,9 @@ pub fn resolve_expr(
             }
             Ok(typed_expression::number(Expr::Pop))
         }
-        Expr::Peek(index) => {
+        Expr::Peek(origin, index) => {
             let index = resolve_expr(alloc, context, names, index)?;
-            typed_expression::peek(alloc, context, index)
+            typed_expression::peek(alloc, context, origin.copy(), index)
         }
         Expr::Call(name, arguments) => {
             let called = resolve_call(alloc, context, names, name, arguments)?;
@@ -78,7 +78,7 @@ pub fn resolve_expr(
         Expr::Binary(operator, left, right) => {
             let left = resolve_expr(alloc, context, names, left)?;
             let right = resolve_expr(alloc, context, names, right)?;
-            typed_expression::binary(alloc, *operator, left, right)
+            typed_expression::binary(alloc, operator.copy(), left, right)
         }
         Expr::Conditional(condition, chosen, other) => {
             let condition = resolve_expr(alloc, context, names, condition)?;

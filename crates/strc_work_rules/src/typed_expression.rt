@@ -13,6 +13,7 @@ use crate::site::Mismatch;
 use std::alloc::Global;
 use strc_lex_names::name::Name;
 use strc_parse_tree::node;
+use strc_parse_tree::operator::{Operator, Origin};
 use strc_parse_tree::tree::{BinaryOperator, Expr, HelperType, StepOperator, UnaryOperator};
 use strc_work_meaning::types::{self, ValueType};
 
@@ -74,7 +75,12 @@ pub fn group(alloc: Global, inner: Typed) -> Result<Typed, LowerError>
 }
 
 /// A look at an item, where one may pop.
-pub fn peek(alloc: Global, context: &Context, index: Typed) -> Result<Typed, LowerError>
+pub fn peek(
+    alloc: Global,
+    context: &Context,
+    origin: Origin,
+    index: Typed,
+) -> Result<Typed, LowerError>
     ensures { IsVerdict typed_view (judged.peek_typed context.now.pops (typed_view index)) result }
 {
     if !context.pops {
@@ -83,7 +89,7 @@ pub fn peek(alloc: Global, context: &Context, index: Typed) -> Result<Typed, Low
     let index = expect_type(ValueType::Int, index)?;
     Ok(Typed {
         kind: ValueType::Int,
-        value: Expr::Peek(Box::new(alloc, index)?),
+        value: Expr::Peek(origin, Box::new(alloc, index)?),
     })
 }
 
@@ -130,7 +136,7 @@ pub fn unary(alloc: Global, operator: UnaryOperator, operand: Typed) -> Result<T
 /// An operator between its operands.
 pub fn binary(
     alloc: Global,
-    operator: BinaryOperator,
+    operator: Operator,
     left: Typed,
     right: Typed,
 ) -> Result<Typed, LowerError>
@@ -138,11 +144,12 @@ pub fn binary(
         (judged.binary_typed operator (typed_view left) (typed_view right))
         result }
 {
-    let sides = sides_type(operator, left.kind);
+    let kind = operator.kind();
+    let sides = sides_type(kind, left.kind);
     let left = expect_type(sides, left)?;
     let right = expect_type(sides, right)?;
     Ok(Typed {
-        kind: binary_type(operator),
+        kind: binary_type(kind),
         value: node::binary_of(alloc, operator, left, right)?,
     })
 }

@@ -115,7 +115,7 @@ fn find_in_expression(
     match value {
         Expr::Number(_) | Expr::Truth(_) | Expr::Read(_) | Expr::Pop | Expr::Step(_, _) => Ok(()),
         Expr::Element(_, inner)
-        | Expr::Peek(inner)
+        | Expr::Peek(_, inner)
         | Expr::Group(inner)
         | Expr::Unary(_, inner)
         | Expr::StepElement(_, _, inner) => find_in_expression(helpers, found, inner),
