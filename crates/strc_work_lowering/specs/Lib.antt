@@ -1,6 +1,5 @@
 pub mod Layouts
 pub mod Emission
 pub mod Written
-pub mod Lines
 pub mod Parts
 pub use Rattle.strc_work_code.specs.Lowering

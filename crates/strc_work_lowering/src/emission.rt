@@ -20,7 +20,6 @@ use crate::builder::Builder;
 use crate::expression_code::emit_expr;
 use crate::helper_code::emit_helpers;
 use crate::layout::Layout;
-use crate::links::Links;
 use crate::operands::cells_of;
 use crate::routine::routine_of;
 use crate::statement_code::emit_block;
@@ -31,6 +30,7 @@ use strc_work_code::bodies;
 use strc_work_code::code::{Code, Routine};
 use strc_work_code::helper::HelperCode;
 use strc_work_code::limits::FiringLimits;
+use strc_work_linearization::links::Links;
 use strc_work_meaning::body::Body;
 
 /// What a filter's code is made of beside its tree.

@@ -9,14 +9,14 @@ ghost use Rattle.strc_work_code.specs.Links.{IsLinked, AreLinkedCodes};
 
 use crate::builder::Builder;
 use crate::layout::Layout;
-use crate::linearize::linearize;
-use crate::links::Links;
 use crate::statement_code::emit_block;
 use std::alloc::Global;
 use strc_lex_names::memory::NoMemory;
 use strc_lex_names::name::Name;
 use strc_parse_tree::tree::{Member, Stmt};
 use strc_work_code::helper::HelperCode;
+use strc_work_linearization::linearize::linearize;
+use strc_work_linearization::links::Links;
 
 /// The code of the helper functions among members, in order.
 pub fn emit_helpers(

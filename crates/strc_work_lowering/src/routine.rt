@@ -5,13 +5,13 @@ ghost use Rattle.strc_work_code.specs.Code.{code_of};
 ghost use Rattle.strc_work_code.specs.Flat.{IsFlat};
 ghost use Rattle.strc_work_code.specs.Links.{IsLinked};
 
-use crate::linearize::linearize;
-use crate::links::Links;
 use std::alloc::Global;
 use strc_lex_names::memory::NoMemory;
 use strc_work_code::code::Routine;
 use strc_work_code::limits::FiringLimits;
 use strc_work_code::node::Node;
+use strc_work_linearization::linearize::linearize;
+use strc_work_linearization::links::Links;
 
 /// The routine of this code.
 pub fn routine_of(

@@ -9,7 +9,7 @@ use Rattle.strc_lex_names.proofs.Lists.{map-drop}
 use Rattle.strc_work_code.specs.declared.helper.HelperCode.{HelperCode}
 use Rattle.strc_work_code.specs.Helpers.{IsHelperOf, AreHelpers}
 use Rattle.strc_work_code.specs.Links.{IsLinked, AreLinkedCodes}
-use Rattle.strc_work_lowering.proofs.Linking.{codes_linked_more}
+use Rattle.strc_work_linearization.proofs.Linking.{codes_linked_more}
 use Rattle.std.specs.Prelude.{IfSome}
 use Rattle.strc_work_meaning.specs.Scoping.{Scope}
 use Rattle.strc_work_lowering.proofs.HelperScopes.{helper_first, helper_none}
