@@ -249,8 +249,10 @@ fn expression_writes_field(fields: &Scope, locals: &Scope, value: &Expr) -> bool
 {
     match value {
         Expr::Number(_) | Expr::Truth(_) | Expr::Read(_) | Expr::Pop => false,
-        Expr::Element(_, inner) | Expr::Peek(_, inner) | Expr::Group(inner) | Expr::Unary(_, inner) =>
-            { expression_writes_field(fields, locals, inner) }
+        Expr::Element(_, inner)
+        | Expr::Peek(_, inner)
+        | Expr::Group(inner)
+        | Expr::Unary(_, inner) => { expression_writes_field(fields, locals, inner) }
         Expr::Call(_, arguments) => arguments_write_field(fields, locals, arguments),
         Expr::Step(_, stepped) => is_field(fields, locals, stepped),
         Expr::StepElement(_, array, index) => {

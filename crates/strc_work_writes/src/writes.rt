@@ -123,8 +123,10 @@ fn expression_writes(value: &Expr, name: &Name) -> bool
 {
     match value {
         Expr::Number(_) | Expr::Truth(_) | Expr::Read(_) | Expr::Pop => false,
-        Expr::Element(_, inner) | Expr::Peek(_, inner) | Expr::Group(inner) | Expr::Unary(_, inner) =>
-            { expression_writes(inner, name) }
+        Expr::Element(_, inner)
+        | Expr::Peek(_, inner)
+        | Expr::Group(inner)
+        | Expr::Unary(_, inner) => { expression_writes(inner, name) }
         Expr::Call(_, arguments) => arguments_write(arguments, name),
         Expr::Step(_, stepped) => same_name(stepped, name),
         Expr::StepElement(_, array, index) => {
