@@ -1,9 +1,10 @@
 -- How many rounds a batch is to have, by counts that a plan has: how often its units fire, how
 -- large its buffers are, and how many units hand their items on.
 use Rattle.std.specs.Prelude.{◌≡◌, ℕ, ◌+◌, ◌-◌, ◌*◌, ◌/◌, ◌^◌, min, max, sum, Bool, true, false}
-use Rattle.std.specs.Prelude.{◌&&◌, eqb, nat_le, List, [], ◌∷◌, length, map, get_or, if◌then◌else◌}
+use Rattle.std.specs.Prelude.{not, ◌&&◌, eqb, nat_le, List, [], ◌∷◌, length, map, get_or, if◌then◌else◌}
 use Rattle.std.specs.Prelude.{Option, Some, None, slice_get, slice_index}
 use Rattle.std.specs.List.{range_with_len}
+use Rattle.strc_work_writes.specs.Stateless.{is_stateless}
 use Rattle.strc_elab_graph.specs.Graphs.{NodeCode, Filter}
 use Rattle.strc_elab_graph.specs.declared.graph.Port.{Port}
 use Rattle.strc_elab_dataflow.specs.FusedUnits.{RoundUnit}
@@ -26,18 +27,19 @@ batch_for_lanes turns =
 
 -- ---- units that hand their items on
 
-abbrev pub is_filter : Option NodeCode → Bool
-is_filter (Some (Filter name filter)) = true
-is_filter _ = false
+-- One without state fires many times at once.
+abbrev pub keeps_state : Option NodeCode → Bool
+keeps_state (Some (Filter name filter)) = not (is_stateless filter)
+keeps_state _ = false
 
 abbrev pub port_of : RoundUnit → Port
 port_of unit = record { node = slice_index unit.nodes 0; port = 0 }
 
--- A unit is a single firing of a filter, which looks at no item that it doesn't take.
+-- A unit is a single firing of a filter with state, which looks at no item that it doesn't take.
 abbrev pub is_single : List NodeCode → RoundUnit → Bool
 is_single codes unit =
     eqb unit.turns 1 && eqb (length unit.nodes) 1
-    && is_filter (slice_get codes (slice_index unit.nodes 0))
+    && keeps_state (slice_get codes (slice_index unit.nodes 0))
     && nat_le (look_at codes 1 (port_of unit)) (pop_at codes 1 (port_of unit))
 
 -- Its rates, if it is one.
