@@ -215,8 +215,7 @@ fn push_index(message: &mut Message, trapped: Trapped) -> Result<(), NoMemory> {
     message.add(b" uses index ")?;
     push_signed(message, trapped.index)?;
     message.add(b" of an array of ")?;
-    message.number(u64::from(trapped.count))?;
-    Ok(message.add(b" (indexes count from 0)")?)
+    Ok(message.number(u64::from(trapped.count))?)
 }
 
 /// Which item wasn't in the window, where that was noted.
@@ -226,9 +225,12 @@ fn push_look(message: &mut Message, trapped: Trapped) -> Result<(), NoMemory> {
     };
     message.add(b" looks at peek(")?;
     push_signed(message, trapped.index)?;
-    message.add(b"), outside of its window, which is peek(0) to peek(")?;
+    if trapped.index < 0 {
+        return Ok(message.add(b"), before its window,")?);
+    }
+    message.add(b"), past peek(")?;
     message.number(u64::from(last))?;
-    Ok(message.add(b") there")?)
+    Ok(message.add(b"), the last of its window,")?)
 }
 
 /// A number in decimal, with its sign.
