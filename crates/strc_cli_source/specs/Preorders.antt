@@ -1,7 +1,7 @@
 -- The nodes of a program's stream in preorder, and which of them channels join.
 use Rattle.std.specs.Prelude.{◌≡◌, ℕ, ◌+◌, Bool, true, false, List, [], ◌∷◌, ◌++◌, length, map}
 use Rattle.std.specs.Prelude.{codes, Option, Some, None, is_some}
-use Rattle.std.specs.Option.{option_map}
+use Rattle.std.specs.Option.{option_map, option_or}
 use Rattle.std.specs.List.{flat_map}
 use Rattle.strc_lex_names.specs.declared.place.Span.{Span}
 use Rattle.strc_work_rules.specs.declared.site.Part.{Part}
@@ -49,8 +49,8 @@ mutual
     -- a feedback loop: whether its joiner takes items from before it, its body, whether its
     -- splitter gives items to what follows it, and its loop
     Loop : (takes : Bool) (body : Tree) (gives : Bool) (back : Tree) → Tree
-    -- a stream that a statement adds
-    Added : (place : Span) (inner : Tree) → Tree
+    -- a stream and the statement that adds it, where there is one
+    Added : (place : Option Span) (inner : Tree) → Tree
 
   pub data Trees : Type 0 where
     Done : Trees
@@ -69,7 +69,7 @@ abbrev mutual
   tree_of (stream.FeedbackLoop' joiner at body splitter at' loop enqueued) =
       Loop (carries_in (Joiner joiner.items) 0) (tree_of body)
       (splitter_carries (splitter_view splitter) 0) (tree_of loop)
-  tree_of (stream.Placed' place at inner) = Added place (tree_of inner)
+  tree_of (stream.Placed' by at inner) = Added by.place (tree_of inner)
 
   pub row_of : {m : _} → Row_of-Stream m → Trees
   row_of end_of-Stream = Done
@@ -106,7 +106,7 @@ abbrev mutual
       ++ row_nodes added children ++ part_nodes joins part.Join added
   nodes_of added (Loop takes body gives back) = part_node part.Join added ∷ nodes_of added body
       ++ part_node part.Split added ∷ nodes_of added back
-  nodes_of added (Added place inner) = nodes_of (Some place) inner
+  nodes_of added (Added place inner) = nodes_of (option_or place added) inner
 
   pub row_nodes : (added : Option Span) → Trees → List SeenView
   row_nodes added Done = []

@@ -131,7 +131,7 @@ fn visit(
                 exit: node_if(gives_items(splitter), split),
             })
         }
-        Stream::Placed(place, inner) => visit(alloc, inner, Some(*place), order),
+        Stream::Placed(by, inner) => visit(alloc, inner, by.place.or(added), order),
     }
 }
 

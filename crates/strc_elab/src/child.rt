@@ -20,11 +20,12 @@ use crate::declared_text::{declared, in_own_text, text_of};
 use crate::placed_error::PlacedError;
 use crate::progress::Progress;
 use crate::task::{Elaborated, Task, Text};
-use std::alloc::Global;
+use std::alloc::{AllocError, Global};
 use strc_elab_statements::captures::captures;
 use strc_elab_statements::error::{ElabError, ElabErrorKind};
 use strc_elab_statements::store::Store;
 use strc_elab_statements::types::passes_items;
+use strc_elab_stream::added::Added;
 use strc_elab_stream::stream::Stream;
 use strc_lex_names::memory::NoMemory;
 use strc_lex_names::name::Name;
@@ -145,8 +146,8 @@ impl<F: Fn(Task) -> Result<Elaborated, PlacedError>> Body<'_, F> {
             return Err(error.or_at(twice.place()));
         }
         let text = text_of(declaration);
-        let own = declaration.name.place();
-        self.elaborated(role, number, &constants, text, own, progress)
+        let name = Some(&declaration.name);
+        self.elaborated(role, number, &constants, text, name, progress)
     }
 
     /// The arguments of a child, from left to right, bound to its parameters.
@@ -228,7 +229,8 @@ impl<F: Fn(Task) -> Result<Elaborated, PlacedError>> Body<'_, F> {
     }
 
     /// Elaborates a text one level below, and adds what is made. A refusal of what the text itself
-    /// says, without a place in it, is at the name of its declaration, where it has one.
+    /// says, without a place in it, is at the name of its declaration, where it has one. The
+    /// constants of a text with a name are its arguments.
     #[tactic(auto, unfolding(crate::specs::Tasks::IsReady))]
     fn elaborated(
         &self,
@@ -236,7 +238,7 @@ impl<F: Fn(Task) -> Result<Elaborated, PlacedError>> Body<'_, F> {
         declaration: usize,
         constants: &Constants,
         text: Text,
-        own: Option<Span>,
+        name: Option<&Name>,
         progress: &mut Progress,
     ) -> Result<(), ElabError>
         requires { IsReady self.now.task (F.pre self.now.elaborate) (F.post self.now.elaborate) }
@@ -270,10 +272,12 @@ impl<F: Fn(Task) -> Result<Elaborated, PlacedError>> Body<'_, F> {
             text,
             totals: progress.totals(),
         });
+        let own = place_of(name);
         let elaborated = given_below(in_own_text(own, answer), &mut progress.trace.here)?;
         progress.store.turns = elaborated.totals.turns;
         progress.filters = elaborated.totals.filters;
-        let stream = added_here(self.task.alloc, progress.trace.here, elaborated.stream)?;
+        let added = added_by(self.task.alloc, progress.trace.here, name, constants)?;
+        let stream = with_added(self.task.alloc, added, elaborated.stream)?;
         match role {
             Role::Add => self.add(stream, elaborated.types, progress),
             Role::Body => self.set_body(stream, elaborated.types, progress),
@@ -365,14 +369,50 @@ fn given_below(
     }
 }
 
-/// A stream, with the statement that adds it, where that is known.
-fn added_here(alloc: Global, here: Option<Span>, stream: Stream) -> Result<Stream, NoMemory>
-    ensures { IfOk result (λ added. stream_view added ≡ stream_view stream) }
-{
-    match here {
-        Some(place) => Ok(Stream::Placed(place, Box::new(alloc, stream)?)),
-        None => Ok(stream),
+/// Where a stream's name is written, if it has one.
+fn place_of(name: Option<&Name>) -> Option<Span> {
+    match name {
+        Some(name) => name.place(),
+        None => None,
     }
+}
+
+/// How this statement adds a stream: by its name, where it has one, and its arguments.
+fn added_by(
+    alloc: Global,
+    here: Option<Span>,
+    name: Option<&Name>,
+    constants: &Constants,
+) -> Result<Added, NoMemory> {
+    let Some(name) = name else {
+        return Ok(Added {
+            place: here,
+            name: None,
+            arguments: Vec::new(alloc),
+        });
+    };
+    Ok(Added {
+        place: here,
+        name: Some(name.copy()?),
+        arguments: values_of(alloc, constants)?,
+    })
+}
+
+/// The values of constants, in the order in which they were pushed.
+fn values_of(alloc: Global, constants: &Constants) -> Result<Vec<i32>, NoMemory> {
+    let mut values = Vec::with_capacity(alloc, constants.len())?;
+    for number in 0..constants.len() {
+        let (_, value) = constants.at(number);
+        values.push(value)?;
+    }
+    Ok(values)
+}
+
+/// A stream, with how it is added.
+pub(crate) fn with_added(alloc: Global, added: Added, stream: Stream) -> Result<Stream, AllocError>
+    ensures { IfOk result (λ whole. stream_view whole ≡ stream_view stream) }
+{
+    Ok(Stream::Placed(added, Box::new(alloc, stream)?))
 }
 
 /// The parameters of a declared stream.

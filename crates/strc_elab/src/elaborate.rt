@@ -15,6 +15,7 @@ ghost use Rattle.strc_elab.specs.Sound.{IsElaborated};
 ghost use Rattle.strc_elab.specs.Tasks.{elaborated_view};
 ghost use Rattle.strc_elab_stream.specs.View.{stream_view};
 
+use crate::child::with_added;
 use crate::declared_text::{in_own_text, text_of};
 use crate::level::elaborate_text;
 use crate::placed_error::PlacedError;
@@ -24,6 +25,7 @@ use std::alloc::Global;
 use strc_elab_statements::error::ElabError;
 use strc_elab_statements::index::index_of;
 use strc_elab_statements::main_stream::main_of;
+use strc_elab_stream::added::Added;
 use strc_elab_stream::stream::Stream;
 use strc_parse_tree::tree::{Decl, Program};
 use strc_work_meaning::constants::Constants;
@@ -68,7 +70,12 @@ pub fn elaborate_placed(
     let numbers = index_of(alloc, declarations)?;
     let (number, declaration) = main_declaration(declarations, &numbers, main)?;
     let elaborated = main_elaborated(alloc, declarations, &numbers, number, declaration)?;
-    Ok(elaborated.stream)
+    let added = Added {
+        place: None,
+        name: Some(declaration.name.copy()?),
+        arguments: Vec::new(alloc),
+    };
+    Ok(with_added(alloc, added, elaborated.stream)?)
 }
 
 /// The main stream's declaration, with its number.

@@ -22,7 +22,7 @@ abbrev mutual
   stream_view (stream.FeedbackLoop' joiner at body splitter at' loop enqueued) =
       instances.FeedbackLoop joiner.items (stream_view body) (splitter_view splitter)
       (stream_view loop) enqueued.items
-  stream_view (stream.Placed' place at inner) = stream_view inner
+  stream_view (stream.Placed' added at inner) = stream_view inner
 
   pub row_view : {m : _} → Row_of-Stream m → instances.Streams
   row_view end_of-Stream = instances.Done

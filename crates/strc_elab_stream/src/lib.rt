@@ -7,6 +7,7 @@
 // give streams their meaning.
 #![tactic(auto)]
 
+pub mod added;
 pub mod laws;
 pub mod stream;
 pub mod wiring_laws;

@@ -1,9 +1,9 @@
 // A stream of instances: what a program's text becomes when its composite streams have run.
 
+use crate::added::Added;
 use strc_elab_graph::graph::Splitter;
 use strc_elab_graph::instance::Instance;
 use strc_lex_names::name::StringLiteral;
-use strc_lex_names::place::Span;
 
 /// A stream, with its constants substituted (StreamIt specification 2.1, "Streams").
 pub enum Stream {
@@ -23,8 +23,8 @@ pub enum Stream {
     /// The joiner's weights, the body, the splitter, the loop, and the items that are enqueued on
     /// the channel from the loop to the joiner.
     FeedbackLoop(Vec<u32>, Box<Stream>, Splitter, Box<Stream>, Vec<i32>),
-    /// A stream and the statement that adds it. Contracts see the stream alone.
-    Placed(Span, Box<Stream>),
+    /// A stream and how it is added. Contracts see the stream alone.
+    Placed(Added, Box<Stream>),
 }
 
 impl Drop for Stream {
