@@ -65,7 +65,7 @@ both_known (Ok a) P Q h k = (h, k)
 both_known (Err why) P Q h k = tt
 
 pub firings_stay : FiringsStayInRange
-firings_stay filter closed still =
+firings_stay filter closed =
     let names = reverse (sized_fields filter.members) in
     IfOk-weaker (checked filter) (λ rates. ((body : Body)
     → RunsStay (body_rates body filter.members) (body_block body filter.members)
@@ -74,7 +74,7 @@ firings_stay filter closed still =
     let declared = body_rates body filter.members in
     let enough : item_count (pop_rate declared) ≤ length window = omega arith in
     known.0 body (setting_of filter body window) (store_at filter fields)
-    (called_stays filter.members still call_limit)
+    (called_stays names filter.members closed call_limit)
     (length-take-le (item_count (pop_rate declared)) window enough) refl
     (fields_there filter fields) refl all_closed (known.1.0 body)
     (known.1.1 body fields window whole))

@@ -1,7 +1,7 @@
 -- A helper function, whose text moves nothing, stays in range, whatever it calls and returns.
 use Rattle.std.proofs.Common.{◌≡◌, ℕ, zero, suc, ℤ, pos, Bool, true, false, List, [], ◌∷◌}
 use Rattle.std.proofs.Common.{length, Option, Some, None, Result, Ok, Err}
-use Rattle.std.specs.Prelude.{◌==◌}
+use Rattle.std.specs.Prelude.{◌==◌, bytes_eq, if◌then◌else◌}
 use Rattle.std.specs.Option.{IfSome}
 use Rattle.strc_lex_names.specs.Results.{result_and_then}
 use Rattle.strc_parse_tree.specs.Tree as tree
@@ -10,6 +10,7 @@ use Rattle.strc_work_meaning.specs.declared.fault.Cause.TheVariants.{Calls}
 use Rattle.strc_work_meaning.specs.Arithmetic.{is_true}
 use Rattle.strc_work_meaning.specs.Scoping.{Scope, cells_of, total}
 use Rattle.strc_work_meaning.specs.Filters.{Helper, helper_named, sized_fields}
+use Rattle.strc_work_meaning.specs.Closed.{AreClosedMembers}
 use Rattle.strc_work_meaning.specs.Returns.{stmt_returns}
 use Rattle.strc_work_meaning.specs.Firing.{Setting, Store, place_of, values_of, fields_in}
 use Rattle.strc_work_meaning.specs.Firing.{value_of, arguments_given, initial_cells, declared_in}
@@ -18,9 +19,9 @@ use Rattle.strc_work_meaning.specs.Firing.{returned, unless_returned, test_unles
 use Rattle.strc_work_meaning.specs.Firing.{turn_limit, looped, inside, stmt_done, stmts_done, no_io}
 use Rattle.strc_work_meaning.specs.Firing.{helper_store, helper_called, call_ended, called}
 use Rattle.strc_work_meaning.specs.Firing.{element_set}
-use Rattle.strc_rate.specs.Still.{expr_moves, arguments_move, option_moves, variables_move}
-use Rattle.strc_rate.specs.Still.{stmt_moves, stmts_move}
-use Rattle.strc_rate.specs.Ranges.{IsInRange, HelpersAreStill}
+use Rattle.strc_work_meaning.specs.Still.{expr_moves, arguments_move, option_moves, variables_move}
+use Rattle.strc_work_meaning.specs.Still.{stmt_moves, stmts_move}
+use Rattle.strc_rate.specs.Ranges.{IsInRange}
 use Rattle.strc_rate.proofs.Results.{or_first, or_second}
 use Rattle.strc_rate.proofs.Reaching.{in_plain, in_side}
 use Rattle.strc_rate.proofs.Values.{CallsStay, place_stays, joined_stays, turned_stays}
@@ -234,16 +235,49 @@ module _ (setting : Setting) (calls : CallsStay setting) where
       (still_stmts helper.block still store) (λ ended. tt)))
       (λ e. tt)
 
--- calls among helper functions that move nothing, at any level
-pub called_stays : (members : List tree.Member) → HelpersAreStill members → (levels : ℕ)
+-- ---- calls
+
+-- the text of each helper function moves nothing
+abbrev HelpersAreStill : List tree.Member → Type 0
+HelpersAreStill members =
+    (name : List ℕ) → IfSome (helper_named members name)
+    (λ helper. stmts_move helper.block ≡ false)
+
+still_by : (found : Bool) (helper : Helper) (others : Option Helper)
+    → stmts_move helper.block ≡ false → IfSome others (λ h. stmts_move h.block ≡ false)
+    → IfSome (if found then Some helper else others) (λ h. stmts_move h.block ≡ false)
+still_by true helper others still rest = still
+still_by false helper others still rest = rest
+
+helpers_still : (names : Scope) (members : List tree.Member) → AreClosedMembers names members
+    → HelpersAreStill members
+helpers_still names [] closed name = tt
+helpers_still names (tree.Fields kind variables ∷ rest) closed name =
+    helpers_still names rest closed.1 name
+helpers_still names (tree.Init block ∷ rest) closed name = helpers_still names rest closed.1 name
+helpers_still names (tree.Prework rates block ∷ rest) closed name =
+    helpers_still names rest closed.1 name
+helpers_still names (tree.Work rates block ∷ rest) closed name =
+    helpers_still names rest closed.1 name
+helpers_still names (tree.Helper kind own parameters block ∷ rest) closed name =
+    still_by (bytes_eq own name) (record { kind = kind; parameters = parameters; block = block })
+    (helper_named rest name) closed.0.5 (helpers_still names rest closed.1 name)
+
+still_calls : (members : List tree.Member) → HelpersAreStill members → (levels : ℕ)
     (name : List ℕ) (values held : List ℤ) (turns : ℕ)
     → IsInRange (called members levels name values held turns)
-called_stays members still zero name values held turns = tt
-called_stays members still (suc levels) name values held turns =
+still_calls members still zero name values held turns = tt
+still_calls members still (suc levels) name values held turns =
     helper_stays (record {
       port = no_io;
       fields = length (sized_fields members);
       cells = total (sized_fields members);
       call = called members levels;
-    }) (called_stays members still levels) (sized_fields members) (helper_named members name)
+    }) (still_calls members still levels) (sized_fields members) (helper_named members name)
     (still name) values held turns
+
+-- the helper functions among members of known names, at any level
+pub called_stays : (names : Scope) (members : List tree.Member) → AreClosedMembers names members
+    → (levels : ℕ) (name : List ℕ) (values held : List ℤ) (turns : ℕ)
+    → IsInRange (called members levels name values held turns)
+called_stays names members closed = still_calls members (helpers_still names members closed)

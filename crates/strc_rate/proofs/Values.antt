@@ -41,7 +41,8 @@ place_by None = tt
 place_by (Some place) = tt
 
 -- an index is tested
-pub place_stays : (store : Store) (name : List ℕ) (index : ℤ) → IsInRange (place_of store name index)
+pub place_stays : (store : Store) (name : List ℕ) (index : ℤ)
+    → IsInRange (place_of store name index)
 place_stays store name index = place_by (place_in (length (cells_named store.variables name)) index)
 
 zero_stays : (divisor value : ℤ) → IsInRange (unless_zero divisor value)
@@ -83,7 +84,8 @@ turned_stays store = by_test (nat_lt store.traffic.turns turn_limit)
 
 -- ---- items
 
-popped_by : (item : Option ℤ) (traffic : Traffic) → IsSome item → IsInRange (item_popped item traffic)
+popped_by : (item : Option ℤ) (traffic : Traffic) → IsSome item
+    → IsInRange (item_popped item traffic)
 popped_by None traffic there = absurd (cc)
 popped_by (Some item) traffic there = tt
 

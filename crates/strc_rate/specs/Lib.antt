@@ -1,7 +1,6 @@
 pub mod Rates
 pub mod Kept
 pub mod Safe
-pub mod Still
 pub mod Ranges
 pub mod RangeRows
 pub mod Verdicts

@@ -40,7 +40,8 @@ pub record RangeRows : Type 0 where
     work = record { push = 1; pop = 1; window = 1; closed = true ∷ [] };
   })
   pub divided : fired dividing body.Work [] (pos 5 ∷ []) ≡ Err DivZero
-  -- a helper function that pops isn't: counts don't look into it
+  -- a helper function that pops isn't: counts don't look into it, and a filter of known names has
+  -- none
   pub pops : checked popping ≡ Ok (record {
     prework = None;
     work = record { push = 1; pop = 1; window = 1; closed = [] };

@@ -1,17 +1,15 @@
 -- That no firing pops or pushes past its rates or looks past its window, whatever it faults with.
 use Rattle.std.specs.Prelude.{◌≡◌, ◌≤◌, ◌<◌, ℕ, ℤ, Bool, true, false, List, length, get_or}
-use Rattle.std.specs.Prelude.{Result, Ok, Err, IfOk, IfSome}
-use Rattle.strc_parse_tree.specs.Tree as tree
+use Rattle.std.specs.Prelude.{Result, Ok, Err, IfOk}
 use Rattle.strc_work_meaning.specs.declared.body.Body.{Body}
 use Rattle.strc_work_meaning.specs.declared.fault.Cause.{Cause}
 use Rattle.strc_work_meaning.specs.declared.fault.Cause.TheVariants.{DivZero, Index, PeekRange}
 use Rattle.strc_work_meaning.specs.declared.fault.Cause.TheVariants.{Turns, Calls}
-use Rattle.strc_work_meaning.specs.Filters.{Filter, helper_named, body_rates, window_size}
+use Rattle.strc_work_meaning.specs.Filters.{Filter, body_rates, window_size}
 use Rattle.strc_work_meaning.specs.Closed.{IsClosedFilter}
 use Rattle.strc_rate.specs.Kept.{run_of}
 use Rattle.strc_rate.specs.Rates.{FilterRates, checked}
 use Rattle.strc_rate.specs.Safe.{rates_of}
-use Rattle.strc_rate.specs.Still.{stmts_move}
 
 -- a run that comes to no item outside its window and to no push past its room: `PeekRange` is the
 -- fault of these alone, at once
@@ -27,12 +25,6 @@ IsInRange (Err Calls) = Unit {0}
 abbrev pub AllAreClosed : List Bool → Type 0
 AllAreClosed entries = (place : ℕ) → place < length entries → get_or entries place false ≡ true
 
--- a helper function has no items of its own to pop or to look at, and no room: its text moves none
-abbrev pub HelpersAreStill : List tree.Member → Type 0
-HelpersAreStill members =
-    (name : List ℕ) → IfSome (helper_named members name)
-    (λ helper. stmts_move helper.block ≡ false)
-
 -- each firing before a whole window, of a body whose peeks are all closed, pops and pushes at most
 -- the declared rates and looks at no item past its window, up to its end or to its fault
 abbrev pub StaysInRange : Filter → FilterRates → Type 0
@@ -44,5 +36,5 @@ StaysInRange filter rates =
 
 -- and so do the firings of a filter of known names whose rates are accepted
 abbrev pub FiringsStayInRange : Type 0
-FiringsStayInRange = (filter : Filter) → IsClosedFilter filter → HelpersAreStill filter.members
+FiringsStayInRange = (filter : Filter) → IsClosedFilter filter
     → IfOk (checked filter) (StaysInRange filter)
