@@ -5,3 +5,4 @@ pub mod Nodes
 pub mod Firings
 pub mod Runs
 pub mod Taken
+pub mod Ranges

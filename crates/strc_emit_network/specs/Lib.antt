@@ -5,3 +5,4 @@ pub mod Firings
 pub mod Runs
 pub mod Readers
 pub mod Taken
+pub mod Ranges

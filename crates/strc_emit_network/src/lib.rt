@@ -10,6 +10,7 @@
 
 ghost use Rattle.strc_emit_network.specs.Firings.{NetworkFirings, ReadersReadNext, TakesAreThere};
 ghost use Rattle.strc_emit_network.specs.Later.{LaterRatesAreSame, WorksFireLater};
+ghost use Rattle.strc_emit_network.specs.Ranges.{CodesStayInRange};
 ghost use Rattle.strc_emit_network.specs.Readers.{ReadersRead};
 ghost use Rattle.strc_emit_network.specs.Runs.{NetworkRuns, NetworkStarts};
 ghost use Rattle.strc_emit_network.specs.Seen.{FrontsAreSeen, WindowsAreSeen};
@@ -71,4 +72,10 @@ pub fn network_starts()
 /// A round takes as many items of a channel as its firings do, each as many as the later ones.
 pub fn rounds_take()
     ensures { RoundsTake }
+{}
+
+/// Where the rates of a filter of known names are accepted and each peek of a body is closed, the
+/// code of that body looks at no item past its window, and pops and pushes at most its rates.
+pub fn codes_stay_in_range()
+    ensures { CodesStayInRange }
 {}

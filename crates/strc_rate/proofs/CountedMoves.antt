@@ -97,7 +97,7 @@ counted_both a b c None y h k = tt
 counted_both a b c (Some x) None h k = tt
 counted_both a b c (Some x) (Some y) h k = one_after a b c x y h k
 
-same_pushes : (c d : Counts) → same_counts c d ≡ true → c.pushes ≡ d.pushes
+pub same_pushes : (c d : Counts) → same_counts c d ≡ true → c.pushes ≡ d.pushes
 same_pushes c d e = eqb-true c.pushes d.pushes (and_first (nat_eq c.pushes d.pushes) _ e)
 
 pub same_pops : (c d : Counts) → same_counts c d ≡ true → c.pops ≡ d.pops
@@ -413,7 +413,7 @@ mutual
       (value_of setting other test.1) h.1 (value_counts setting chosen test.1)
       (value_counts setting other test.1)))
 
-  arguments_counted : (setting : Setting) (arguments : tree.Arguments) (store : Store)
+  pub arguments_counted : (setting : Setting) (arguments : tree.Arguments) (store : Store)
       → IfOk (arguments_given setting arguments store)
       (λ given. Counted (arguments_counts arguments) store.traffic given.1.traffic)
   arguments_counted setting tree.NoArgument store = stays store.traffic
@@ -513,7 +513,7 @@ element_assigned_counts setting name index operator value store =
 
 -- ---- declarations
 
-initial_counts : (setting : Setting) (cells : ℕ) (initial : Option tree.Expr) (store : Store)
+pub initial_counts : (setting : Setting) (cells : ℕ) (initial : Option tree.Expr) (store : Store)
     → IfOk (initial_cells setting cells initial store)
     (λ given. Counted (option_counts initial) store.traffic given.1.traffic)
 initial_counts setting cells None store = stays store.traffic

@@ -30,3 +30,12 @@ pub mod Sparing
 pub mod Kept
 pub mod Started
 pub mod WorkedRows
+pub mod Reaching
+pub mod Fitting
+pub mod Values
+pub mod Parts
+pub mod Loops
+pub mod Statements
+pub mod Helpers
+pub mod Firings
+pub mod WorkedRanges

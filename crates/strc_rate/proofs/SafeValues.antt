@@ -42,7 +42,7 @@ pub record IsWhole (window : ℕ) (port : Port) : Type 0 where
   pub small : window < COUNT_LIMIT
   pub ahead : window ≤ length port.ahead
 
-item_there : {A : Type 0} (items : List A) (place : ℕ) → place < length items
+pub item_there : {A : Type 0} (items : List A) (place : ℕ) → place < length items
     → is_some (slice_get items place) ≡ true
 item_there [] place lt = absurd (omega arith)
 item_there (first ∷ rest) zero lt = refl

@@ -39,7 +39,7 @@ use Rattle.strc_rate.proofs.CountedMoves.{one_more_counted, more_turns}
 -- ---- parts of statements
 
 -- a value, with what was moved, in a store of the same variables
-value_in_scope : (setting : Setting) (e : tree.Expr) (store : Store)
+pub value_in_scope : (setting : Setting) (e : tree.Expr) (store : Store)
     → IfOk (value_of setting e store) (λ given. Counted
     (expr_counts e) store.traffic given.1.traffic
     × (scope_of given.1.variables ≡ scope_of store.variables)
@@ -61,7 +61,7 @@ value_in_scope setting e store =
     (constant_sound setting e store)))
 
 -- a test of a loop, and a part that is run in each turn, in these variables
-abbrev Tests : Scope → Option Counts → (Store → Result (ℤ × Store) Cause) → Type 0
+abbrev pub Tests : Scope → Option Counts → (Store → Result (ℤ × Store) Cause) → Type 0
 Tests scope x test =
     (store : Store) → scope_of store.variables ≡ scope
     → IfOk (test store) (λ given. Counted x store.traffic given.1.traffic
@@ -73,7 +73,7 @@ Parts scope x does =
     → IfOk (does store) (λ after. Counted x store.traffic after.traffic
     × (scope_of after.variables ≡ scope))
 
-expr_tests : (setting : Setting) (e : tree.Expr) (scope : Scope)
+pub expr_tests : (setting : Setting) (e : tree.Expr) (scope : Scope)
     → Tests scope (expr_counts e) (value_of setting e)
 expr_tests setting e scope store is =
     IfOk-weaker (value_of setting e store) (λ given. Counted
@@ -82,7 +82,7 @@ expr_tests setting e scope store is =
     × IfSome (constant e) (λ v. given.0 ≡ v)) _ (λ given h. (h.0, h.1 ∙ is))
     (value_in_scope setting e store)
 
-condition_tests : (setting : Setting) (condition : Option tree.Expr) (scope : Scope)
+pub condition_tests : (setting : Setting) (condition : Option tree.Expr) (scope : Scope)
     → Tests scope (option_counts condition) (condition_value setting condition)
 condition_tests setting None scope store is = (stays store.traffic, is)
 condition_tests setting (Some condition) scope store is =

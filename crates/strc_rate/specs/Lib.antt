@@ -1,6 +1,8 @@
 pub mod Rates
 pub mod Kept
 pub mod Safe
+pub mod Ranges
+pub mod RangeRows
 pub mod Verdicts
 pub mod Counts
 pub mod Entries

@@ -3,6 +3,7 @@ use Rattle.std.specs.Prelude.{ℕ, ◌≡◌, ◌≤◌, true, false, List, [], 
 use Rattle.strc_parse_tree.specs.Tree as tree
 use Rattle.strc_work_meaning.specs.Filters.{Filter, sized_fields, stmts_print}
 use Rattle.strc_work_meaning.specs.Returns.{stmts_return, names_shadow, stmts_shadow, stmts_answer}
+use Rattle.strc_work_meaning.specs.Still.{stmts_move}
 use Rattle.strc_work_meaning.specs.Scoping.{Scope, cells_of, names_after, is_declared, answer_name}
 use Rattle.strc_work_meaning.specs.Scoping.{helper_scope}
 
@@ -94,12 +95,12 @@ IsClosedBody names block =
     AreClosed names block × (stmts_return block ≡ false) × (stmts_shadow block ≡ false)
 
 -- a helper function's block, inside its parameters: it doesn't print, nothing shadows its answer,
--- and nothing but a `return` writes that
+-- nothing but a `return` writes that, and it doesn't pop, peek or push
 abbrev pub IsClosedHelper : Scope → (parameters : List (List ℕ)) → tree.Stmts → Type 0
 IsClosedHelper names parameters block =
     AreClosed (helper_scope names parameters) block × (stmts_print block ≡ false)
     × (names_shadow parameters ≡ false) × (stmts_shadow block ≡ false)
-    × (stmts_answer block ≡ false)
+    × (stmts_answer block ≡ false) × (stmts_move block ≡ false)
 
 -- a member, among the fields
 abbrev pub IsClosedMember : Scope → tree.Member → Type 0

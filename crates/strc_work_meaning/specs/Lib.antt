@@ -4,6 +4,7 @@ pub mod Scoping
 pub mod Calls
 pub mod Typing
 pub mod Returns
+pub mod Still
 pub mod Firing
 pub mod Constants
 pub mod Closed

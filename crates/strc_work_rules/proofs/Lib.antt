@@ -5,6 +5,7 @@ pub mod RefusedPlaces
 pub mod PlacesOfMembers
 pub mod ResolvingExpressions
 pub mod Unanswered
+pub mod StillResolved
 pub mod ResolvingStatements
 pub mod Resolving
 pub mod Calls

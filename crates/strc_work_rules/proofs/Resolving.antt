@@ -39,6 +39,8 @@ use Rattle.strc_work_rules.proofs.ResolvingExpressions.{sees_more}
 use Rattle.strc_work_rules.proofs.ResolvingStatements.{FitsType, FitsDeclared, type_gives}
 use Rattle.strc_work_rules.proofs.ResolvingStatements.{IsLikeVariable, initial_like, stmts_gives}
 use Rattle.strc_work_rules.proofs.ResolvingStatements.{AreLike, kept_known, not_first, not_answer}
+use Rattle.strc_work_rules.proofs.Unanswered.{both_give}
+use Rattle.strc_work_rules.proofs.StillResolved.{AreStill, stmts_still}
 
 -- the names of fields are among these
 abbrev AreNamedFields : List (List ℕ) → List tree.Variable → Type 0
@@ -192,16 +194,20 @@ helper_gives constants helpers scope fields known kind name parameters block sam
     (then_gives (AreParameters parameters) closed given
     (λ p. result_and_then resolved (λ b. Ok (tree.Helper kind name p b)))
     (parameters_give fields (length fields) parameters) (λ p e.
-    then_gives (AreLike context inner) closed resolved (λ b. Ok (tree.Helper kind name p b))
+    then_gives (λ (b : tree.Stmts). AreLike context inner b × AreStill b) closed resolved
+    (λ b. Ok (tree.Helper kind name p b))
+    (both_give (AreLike context inner) AreStill resolved
     (stmts_gives context inner names (length names) block
     (sees_helper constants helpers kind scope fields parameters same none
     (ap names_shadow (sym e.0) ∙ e.1)))
+    (stmts_still context refl refl names (length names) block))
     (λ b h. record {
-      0 = subst (λ l. AreClosed (helper_scope scope l) b) (sym e.0) h.0;
-      1 = h.1.1 refl;
+      0 = subst (λ l. AreClosed (helper_scope scope l) b) (sym e.0) h.0.0;
+      1 = h.0.1.1 refl;
       2 = e.1;
-      3 = h.1.2;
-      4 = h.1.3;
+      3 = h.0.1.2;
+      4 = h.0.1.3;
+      5 = h.1;
     })))
 
 member_gives : (constants : List (List ℕ × ℤ)) (helpers : Signatures) (input output : ItemType)
