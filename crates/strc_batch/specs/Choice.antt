@@ -76,10 +76,11 @@ is_chained codes units = nat_le (3 * length units) (4 * hand_ons codes units)
 
 -- ---- the choice
 
--- For units with so few turns, buffers that hold so much, and so many rounds.
-abbrev pub suited_batch : (turns held rounds : ℕ) → ℕ
-suited_batch turns held rounds =
-    max (min (min (batch_for_lanes turns) (rounds / LEAST_BATCHES)) (CACHED_ITEMS / max held 1)) 1
+-- For firings that want so many rounds, buffers that hold so much, so many rounds, and steps that
+-- are to have so many of them.
+abbrev pub suited_batch : (lanes held rounds least : ℕ) → ℕ
+suited_batch lanes held rounds least =
+    max (min (min (max lanes least) (rounds / LEAST_BATCHES)) (CACHED_ITEMS / max held 1)) 1
 
 abbrev pub plan_round : PlanParts → List RoundUnit
 plan_round plan = round_units plan.split.schedule.round
@@ -88,7 +89,11 @@ plan_round plan = round_units plan.split.schedule.round
 abbrev pub plan_held : PlanParts → ℕ
 plan_held plan = min (sum plan.split.schedule.sizes) (2 ^ 64 - 1)
 
-abbrev pub chosen_batch : PlanParts → (rounds : ℕ) → ℕ
-chosen_batch plan rounds =
+-- How many rounds the firings of a plan want.
+abbrev pub lanes_batch : PlanParts → ℕ
+lanes_batch plan =
     if is_chained (transformed_of plan).nodes (plan_round plan) then 1
-    else suited_batch (least_turns (plan_round plan)) (plan_held plan) rounds
+    else batch_for_lanes (least_turns (plan_round plan))
+
+abbrev pub chosen_batch : PlanParts → (rounds least : ℕ) → ℕ
+chosen_batch plan rounds least = suited_batch (lanes_batch plan) (plan_held plan) rounds least

@@ -19,24 +19,33 @@ pub const LEAST_BATCHES: u32 = 8;
 /// How many items all buffers are to hold, so that they stay in a second cache.
 pub const CACHED_ITEMS: u64 = 65_536;
 
-/// How many rounds a batch is to have where one worker runs so many: from 1, which is no batch, to
-/// 64.
+/// How many rounds a batch is to have where a stage runs so many, of which a step of it is to have
+/// `least`: from 1, which is no batch.
 ///
-/// There are so many that each node fires 64 times at least, at most so many that there are 8
-/// batches, and that buffers of so many times the plan's sizes hold no more than 65,536 items. A
-/// round most of whose units are single firings of filters with state that hand their items on to
-/// the next one has no batches: its items stay in one place, where in a batch they would go over
-/// buffers. Filters without state fire 64 times at once in a batch, which is worth more.
-pub fn chosen_batch(plan: &Plan, rounds: u32) -> u32
-    ensures { result ≡ spec.chosen_batch plan.now rounds }
+/// There are so many that each node fires 64 times at least, and as many as a step is to have; at
+/// most so many that there are 8 batches, and that buffers of so many times the plan's sizes hold
+/// no more than 65,536 items. A round most of whose units are single firings of filters with state
+/// that hand their items on to the next one isn't put into batches for the firings' sake: its items
+/// stay in one place, where in a batch they would go over buffers. Filters without state fire 64
+/// times at once in a batch, which is worth more.
+pub fn chosen_batch(plan: &Plan, rounds: u32, least: u32) -> u32
+    ensures { result ≡ spec.chosen_batch plan.now rounds least }
+{
+    let wanted = lanes_batch(plan).max(least).min(rounds / LEAST_BATCHES);
+    let room = CACHED_ITEMS / items_held(plan.transformed_sizes()).max(1);
+    u64::from(wanted).min(room).max(1) as u32
+}
+
+/// How many rounds a batch is to have for the sake of its firings.
+fn lanes_batch(plan: &Plan) -> u32
+    ensures { result ≡ spec.lanes_batch plan.now }
 {
     let units = plan.transformed_schedule().round();
     if is_chained(plan.transformed_graph().nodes(), units) {
-        return 1;
+        1
+    } else {
+        batch_for_lanes(least_turns(units))
     }
-    let wanted = batch_for_lanes(least_turns(units)).min(rounds / LEAST_BATCHES);
-    let room = CACHED_ITEMS / items_held(plan.transformed_sizes()).max(1);
-    u64::from(wanted).min(room).max(1) as u32
 }
 
 /// How many rounds it takes until a node has fired 64 times, where it fires so often in one.

@@ -30,7 +30,7 @@ pub(crate) fn run_single(
 {
     let each = match batching {
         Batching::One => 1,
-        Batching::Chosen => chosen_batch(plan, rounds),
+        Batching::Chosen => chosen_batch(plan, rounds, 1),
         Batching::Of(count) => count,
     };
     match batched_tapes(alloc, plan, input, rounds, each) {

@@ -21,6 +21,7 @@ use strc_sched_outcome::run_refusal::RunRefusal;
 use strc_stage_plan::plan::Plan;
 use strc_stage_steps::Stage;
 use strc_stage_weights::bounds::weighed_bounds;
+use strc_stage_weights::step_rounds::{round_work, rounds_for_step};
 
 /// Start-up and so many rounds by the stages of the plan: by batches of one round at least and by
 /// stages of even work, where these come to their end; else one by one, which tells the fault.
@@ -44,7 +45,7 @@ pub(crate) fn run_staged<G: Gate<Stage>, R: Threads + Wait + Sync>(
     // Each stage is to step some times while the others do.
     let each = match sharing.batching {
         Batching::One => return run_stages(rt, alloc, plan, input, rounds, workers, gate),
-        Batching::Chosen => chosen_batch(plan, rounds / workers),
+        Batching::Chosen => chosen_batch(plan, rounds / workers, step_rounds(alloc, plan, workers)),
         Batching::Of(count) => count,
     };
     match batched_tapes(rt, alloc, plan, input, rounds, workers, each, gate) {
@@ -82,6 +83,15 @@ fn batched_tapes<G: Gate<Stage>, R: Threads + Wait + Sync>(
     match run_stages_by_batches(rt, alloc, plan, input, rounds, bounds, &batch, gate) {
         Ok(found) => found,
         Err(_) => None,
+    }
+}
+
+/// How many rounds a worker's step is to have, so that its work is worth handing its parcel on; one
+/// where memory runs out for that.
+fn step_rounds(alloc: Global, plan: &Plan, workers: u32) -> u32 {
+    match round_work(alloc, plan) {
+        Ok(work) => rounds_for_step(work, workers),
+        Err(NoMemory) => 1,
     }
 }
 

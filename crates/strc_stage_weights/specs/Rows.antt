@@ -12,6 +12,7 @@ use Rattle.strc_stage_plan.specs.Bounds.{first_group}
 use Rattle.strc_stage_weights.specs.FiringWork.{firing_work}
 use Rattle.strc_stage_weights.specs.RoundWork.{round_works, work_in_round}
 use Rattle.strc_stage_weights.specs.StageBounds.{bounds_by_weight}
+use Rattle.strc_stage_weights.specs.StepRounds.{rounds_for_step}
 
 -- `work push 1 pop 1 { push(pop()); }`: a push and a pop
 abbrev pub passing : Filter
@@ -57,12 +58,16 @@ weights = group_weights (λ node. get_or (round_works firings order) node 0)
 
 -- By weight the source is with the first filter and the printer with the last one, and each filter
 -- is a stage; evenly shared, the second stage has two of them. A second round's firings come to
--- twice the work, which is counted up to a limit.
+-- twice the work, which is counted up to a limit. Four workers' steps are worth their parcels after
+-- 431 such rounds; others after no more than 1,024, and after one that is heavy.
 pub record WeighedRow : Type 0 where
   pub weighs : weights ≡ 1 ∷ 9 ∷ 9 ∷ 9 ∷ 9 ∷ 1 ∷ []
   pub bounds : bounds_by_weight starts (1 ∷ 9 ∷ 9 ∷ 9 ∷ 9 ∷ 1 ∷ []) 4
       ≡ 0 ∷ 2 ∷ 3 ∷ 4 ∷ 6 ∷ []
   pub evenly : map (first_group 6 4) (0 ∷ 1 ∷ 2 ∷ 3 ∷ 4 ∷ []) ≡ 0 ∷ 1 ∷ 3 ∷ 4 ∷ 6 ∷ []
   pub one_group_each : bounds_by_weight starts (1 ∷ 9 ∷ 9 ∷ 9 ∷ 9 ∷ 1 ∷ []) 6 ≡ starts
+  pub for_steps : rounds_for_step 38 4 ≡ 431
+  pub for_no_more : rounds_for_step 1 64 ≡ 1024
+  pub for_heavy : rounds_for_step 1000000 4 ≡ 1
   pub twice : work_in_round 2 9 ≡ 18
   pub saturated : work_in_round 1000001 1000000000 ≡ 1000000000000000

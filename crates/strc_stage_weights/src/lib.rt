@@ -15,4 +15,5 @@ mod group_work;
 pub mod laws;
 pub mod node_work;
 mod stage_groups;
+pub mod step_rounds;
 mod unit_work;
