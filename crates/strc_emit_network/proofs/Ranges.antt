@@ -1,11 +1,10 @@
 -- Lowered code faults as its text does, and so stays in range where that does.
-use Rattle.std.proofs.Common.{◌≡◌, subst, List, length, Result, Ok, Err}
+use Rattle.std.proofs.Common.{◌≡◌, subst, length, Result, Ok, Err}
 use Rattle.std.proofs.lemmas.Result.{IfOk-weaker}
 use Rattle.strc_work_meaning.specs.declared.fault.Cause.{Cause}
 use Rattle.strc_work_meaning.specs.declared.fault.Cause.TheVariants.{DivZero, Index, PeekRange}
 use Rattle.strc_work_meaning.specs.declared.fault.Cause.TheVariants.{Turns, Calls}
-use Rattle.strc_work_meaning.specs.Firing.{Fired, fired, setting_of, no_traffic}
-use Rattle.strc_work_code.specs.Machine.{Machine}
+use Rattle.strc_work_meaning.specs.Firing.{fired, setting_of, no_traffic}
 use Rattle.strc_work_code.specs.Lowering.{body_nodes}
 use Rattle.strc_work_code.specs.Nodes.{nodes_done}
 use Rattle.strc_work.proofs.Related.{Related}
@@ -18,13 +17,13 @@ use Rattle.strc_rate.proofs.Firings.{firings_stay}
 use Rattle.strc_emit_network.specs.Ranges.{CodesStayInRange}
 
 -- whatever a run would have given
-same_fault : {A B : Type 0} (why : Cause) → IsInRange {A = A} (Err why)
+same_fault : (A B : Type 0) (why : Cause) → IsInRange {A = A} (Err why)
     → IsInRange {A = B} (Err why)
-same_fault DivZero here = tt
-same_fault Index here = tt
-same_fault PeekRange here = here
-same_fault Turns here = tt
-same_fault Calls here = tt
+same_fault A B DivZero here = tt
+same_fault A B Index here = tt
+same_fault A B PeekRange here = here
+same_fault A B Turns here = tt
+same_fault A B Calls here = tt
 
 -- a run that tells the same stays in range too
 pub related_stays : {A B : Type 0} (P : A → B → Type 0) (x : Result A Cause) (y : Result B Cause)
@@ -33,7 +32,7 @@ related_stays P (Ok a) (Ok b) same here = tt
 related_stays P (Ok a) (Err why) same here = absurd same
 related_stays P (Err why) (Ok b) same here = tt
 related_stays {A} {B} P (Err why) (Err other) same here =
-    subst (λ cause. IsInRange {A = B} (Err cause)) same (same_fault {A} {B} why here)
+    subst (λ cause. IsInRange {A = B} (Err cause)) same (same_fault A B why here)
 
 pub codes_stay : CodesStayInRange
 codes_stay filter closed =
