@@ -1,5 +1,5 @@
 -- Lowered code faults as its text does, and so stays in range where that does.
-use Rattle.std.proofs.Common.{◌≡◌, subst, length, Result, Ok, Err}
+use Rattle.std.proofs.Common.{◌≡◌, subst, List, length, Result, Ok, Err}
 use Rattle.std.proofs.lemmas.Result.{IfOk-weaker}
 use Rattle.strc_work_meaning.specs.declared.fault.Cause.{Cause}
 use Rattle.strc_work_meaning.specs.declared.fault.Cause.TheVariants.{DivZero, Index, PeekRange}

@@ -25,8 +25,8 @@ returns-in_ok-right-in-Some c =
     let second : written c.emit_operand.new.code
     ≡ before (written c.save_old_value.new.code) (operand_nodes names true value (free + 1)) =
     search rules in
-    on_ok c.put.result _ _ (λ last. assigned_more names name c.args.operator c.in-Some.operator
+    on_ok c.put_at.result _ _ (λ last. assigned_more names name c.args.operator c.in-Some.operator
     value (slot_of names name) free c.in_ok-left-in-Some.left c.in_ok-right-in-Some.right
     (written c.args.code.now) (written c.save_old_value.new.code)
-    (written c.emit_operand.new.code) (written c.put.new.self) plain left first right second
-    (search rules)) c.put.ensures
+    (written c.emit_operand.new.code) (written c.put_at.new.self) plain left first right second
+    (search rules)) c.put_at.ensures
