@@ -27,7 +27,10 @@ returns-in-Some-clause-run c =
       Some c.in-Some.stop,
       halted_runs (state_of stage) stage.first stage.rounds stage.taken stage.stop stage.finished
           c.in-Some.stop c.in-Some.is own.load own.stop own.last
-          (sym c.stopped.ensures ∙ c.if-stopped.false) c.set_stop.new.self c.set_stop.ensures,
+          (sym c.stopped.ensures ∙ c.if-stopped.false) c.set_stop.new.self
+          (c.set_stop.ensures
+          ∙ ap (λ (s : Stop). parcel own.load (or_else own.stop (Some s)) own.last)
+          c.copy.ensures),
     )
 
 pub returns-in-Some-work-clause-run : goal.returns-in-Some-work-clause-run
@@ -52,6 +55,9 @@ returns-in-Some-work-clause-run c =
             finished = (worked.2 i).finished;
           })
           (c.set_stop-in-Some-work.ensures
+          ∙ ap (λ (s : Stop). parcel c.empty.new.self.load
+          (or_else c.empty.new.self.stop (Some s)) c.empty.new.self.last)
+          c.copy-in-Some-work.ensures
           ∙ ap (λ (p : ParcelView). parcel p.load (or_else p.stop (Some stop)) p.last) empty),
     )
 
@@ -80,7 +86,8 @@ returns-in-Some-work-clause-memory c = λ none going e.
     let worked = c.in-Some-work.ensures.worked in
     c.in-Some-work.ensures.memory
     (set_wants _ _ _ c.in-Some-work.stop (ap (λ (p : ParcelView). p.stop)
-    c.set_stop-in-Some-work.ensures)
+    c.set_stop-in-Some-work.ensures
+    ∙ ap (λ (s : Stop). or_else c.empty.new.self.stop (Some s)) c.copy-in-Some-work.ensures)
     (ap (λ (p : ParcelView). p.stop) c.empty.ensures ∙ worked.4) none e)
 
 pub returns-in_default-work-clause-memory : goal.returns-in_default-work-clause-memory
