@@ -136,12 +136,22 @@ fn tapes_of(
 ) -> Result<Option<Vec<Tape>>, NoMemory>
     ensures { IfOk result (TellsTapes plan.now ended) }
 {
-    match ended.stop {
+    match stop_of(&ended) {
         None => match outcome_of(alloc, plan, ended) {
             Ok(outcome) => Ok(done_tapes(outcome)),
             Err(_) => Err(NoMemory),
         },
         Some(stop) => no_tapes(stop),
+    }
+}
+
+/// Why a collector's run stops short of its rounds.
+fn stop_of(ended: &CollectorParts) -> Option<Stop>
+    ensures { result ≡ ended.now.stop }
+{
+    match &ended.stop {
+        Some(stop) => Some(stop.copy()),
+        None => None,
     }
 }
 

@@ -52,9 +52,15 @@ fn own_outcome(
         → IsTold (map node_view nodes.now) answer outcome) }
     ensures memory { IfErr result (λ refusal. refusal ≡ refused.NoMemory) }
 {
-    match collector.stop {
-        None => Ok(Outcome::Done(told_tapes(alloc, nodes, collector.words)?)),
-        Some(stop) => stopped(alloc, nodes, collector.words, collector.gathered, stop),
+    let CollectorParts {
+        words,
+        gathered,
+        stop,
+        ..
+    } = collector;
+    match stop {
+        None => Ok(Outcome::Done(told_tapes(alloc, nodes, words)?)),
+        Some(stop) => stopped(alloc, nodes, words, gathered, stop),
     }
 }
 
