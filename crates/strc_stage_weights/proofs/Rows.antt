@@ -22,6 +22,9 @@ weighed_row = record {
   bounds = refl;
   evenly = refl;
   one_group_each = refl;
+  for_steps = refl;
+  for_no_more = refl;
+  for_heavy = refl;
   twice = refl;
   saturated = refl;
 }
