@@ -248,7 +248,7 @@ fn faulted(
             firing,
             round,
             cause,
-            tapes: _,
+            tapes: _tapes,
         } => LiveEnd::Faulted(FaultSite {
             node,
             firing,
