@@ -34,10 +34,9 @@ impl Counter {
     fn stop_on(&self, given: &Parcel) -> Option<Stop>
         ensures { result ≡ or_else self.now.stop given.now.stop }
     {
-        if self.stop.is_some() {
-            self.stop
-        } else {
-            given.stop()
+        match &self.stop {
+            Some(stop) => Some(stop.copy()),
+            None => given.stop(),
         }
     }
 }

@@ -27,8 +27,8 @@ impl Idle {
         if given.stop().is_some() {
             return given.stop();
         }
-        if self.stop.is_some() {
-            return self.stop;
+        if let Some(stop) = &self.stop {
+            return Some(stop.copy());
         }
         if self.taken == self.refused {
             Some(Stop::NoMemory)
@@ -56,16 +56,16 @@ impl Idle {
 }
 
 /// A parcel with this stop and mark, and empty unless it passes.
-fn handed_on(given: Parcel, passes: bool, stop: Option<Stop>, last: bool) -> Parcel
-    requires { or_else given.stop stop ≡ stop }
-    ensures { result ≡ parcel (cond passes given.load (emptied given.load)) stop last }
+fn handed_on(given: Parcel, passes: bool, stop: &Option<Stop>, last: bool) -> Parcel
+    requires { or_else given.stop stop.now ≡ stop.now }
+    ensures { result ≡ parcel (cond passes given.load (emptied given.load)) stop.now last }
 {
     let mut result = given;
     if !passes {
         result.empty();
     }
     if let Some(why) = stop {
-        result.set_stop(why);
+        result.set_stop(why.copy());
     }
     result.mark_last(last);
     result
@@ -103,10 +103,11 @@ impl Actor for Idle {
         let stop = self.stop_on(&parcel);
         let last = self.marks(&parcel);
         let passes = self.passes(&parcel);
+        let handed = handed_on(parcel, passes, &stop, last);
         self.taken += 1;
         self.stop = stop;
         self.finished = last;
-        handed_on(parcel, passes, stop, last)
+        handed
     }
 }
 

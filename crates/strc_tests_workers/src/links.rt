@@ -6,7 +6,7 @@ use std::test::Fail;
 use std::thread;
 use strc_run_links::{Rx, Tx, close, link};
 use strc_stage_core::{Parcel, Stop};
-use strc_work_meaning::fault::Cause;
+use strc_work_meaning::fault::{Cause, LocatedCause, Trapped};
 
 /// A parcel that is known again by the number of a firing.
 fn numbered(alloc: Global, number: u64) -> Parcel {
@@ -14,7 +14,7 @@ fn numbered(alloc: Global, number: u64) -> Parcel {
     parcel.set_stop(Stop::Fault {
         node: 0,
         firing: number,
-        cause: Cause::Index,
+        cause: LocatedCause::new(Cause::Index, Trapped::nothing()),
     });
     parcel
 }

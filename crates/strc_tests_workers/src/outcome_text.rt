@@ -20,7 +20,7 @@ pub fn told(alloc: Global, outcome: &Outcome) -> Result<String, AllocError> {
             tapes,
         } => {
             let mut text = told_tapes(alloc, tapes)?;
-            text.push_str(&told_fault(alloc, *node, *firing, *round, *cause)?)?;
+            text.push_str(&told_fault(alloc, *node, *firing, *round, cause.cause())?)?;
             Ok(text)
         }
     }
@@ -29,7 +29,7 @@ pub fn told(alloc: Global, outcome: &Outcome) -> Result<String, AllocError> {
 /// What a collector has come to.
 pub fn told_collector(alloc: Global, parts: &CollectorParts) -> Result<String, AllocError> {
     let mut text = told_lists(alloc, &parts.words)?;
-    let stop = match parts.stop {
+    let stop = match &parts.stop {
         None => String::new(alloc),
         Some(Stop::NoMemory) => String::from_str(alloc, " out of memory")?,
         Some(
@@ -38,7 +38,13 @@ pub fn told_collector(alloc: Global, parts: &CollectorParts) -> Result<String, A
                 firing,
                 cause,
             },
-        ) => told_fault(alloc, node, firing, Round::At(parts.gathered), cause)?,
+        ) => told_fault(
+            alloc,
+            *node,
+            *firing,
+            Round::At(parts.gathered),
+            cause.cause(),
+        )?,
     };
     text.push_str(&stop)?;
     Ok(text)

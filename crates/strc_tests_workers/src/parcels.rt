@@ -2,7 +2,7 @@
 
 use std::alloc::Global;
 use strc_stage_core::{Parcel, Stop};
-use strc_work_meaning::fault::Cause;
+use strc_work_meaning::fault::{Cause, LocatedCause, Trapped};
 
 /// A parcel with a block of two items and a tape.
 fn parcel(alloc: Global) -> Parcel {
@@ -24,7 +24,7 @@ fn the_first_stop_stays(rt: HostRuntime) {
     parcel.set_stop(Stop::Fault {
         node: 1,
         firing: 2,
-        cause: Cause::Turns,
+        cause: LocatedCause::new(Cause::Turns, Trapped::nothing()),
     });
     parcel.mark_last(true);
     parcel.empty();
