@@ -48,7 +48,7 @@ impl Idle {
         ensures { result ≡ idle_mark self.now.first self.now.taken self.now.rounds given.now }
     {
         if self.first {
-            self.taken + 1 == self.rounds || given.stopped()
+            self.rounds - self.taken == 1 || given.stopped()
         } else {
             given.last()
         }
