@@ -3,8 +3,8 @@
 // window (`check`), and whether it has no state (`stateless`).
 // The theorems to rely on: `check`: Ok exactly where the counted rates are the declared ones and
 // each peek is possible, and then each firing keeps the rates; `body_peeks`: counts and bounds are
-// so in each run; `firings_stay_in_range`: where all peeks are closed, no firing passes its rates or
-// its window, whatever it faults with; `stateless_keeps_fields`.
+// so in each run; `firings_stay_in_range`: where all peeks are closed, no firing passes its rates
+// or its window, whatever it faults with; `stateless_keeps_fields`.
 // Stands on strc_work_code, whose trees these are, and on strc_rate_intervals, which says what
 // numbers expressions can have and what a text writes.
 #![tactic(auto)]

@@ -2,8 +2,9 @@
 // Gives its code: slots for its names, nodes for its bodies, and their flat form.
 // The theorem to rely on: `emission::emit_filter` gives the code whose nodes are those that
 // specs/Lowering says of the tree, and whose flat form does the same.
-// Stands on strc_work_linearization, which makes codes flat, on strc_work_code, whose codes it writes,
-// on strc_work_meaning, whose filters they mean, and on strc_parse_tree, whose trees it reads.
+// Stands on strc_work_linearization, which makes codes flat, on strc_work_code, whose codes it
+// writes, on strc_work_meaning, whose filters they mean, and on strc_parse_tree, whose trees it
+// reads.
 #![tactic(auto)]
 
 mod builder;

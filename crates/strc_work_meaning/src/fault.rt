@@ -45,7 +45,8 @@ impl fmt::Display for Cause {
 
 impl error::Error for Cause {}
 
-/// What is known of what faulted beyond the cause, for those who read of it. No contract rests on it.
+/// What is known of what faulted beyond the cause, for those who read of it. No contract rests on
+/// it.
 #[derive(Clone, Copy, Debug)]
 pub struct Trapped {
     /// Where the operator or the array is written: one more than the number of its first byte; 0
