@@ -15,11 +15,12 @@ prove: ## proves the compiler and keeps the proved program (30 to 45 minutes)
 gate: ## proves and tests everything, and the documents (some 280 processor minutes)
 	@scripts/documents --check; documents=$$?; scripts/unused; unused=$$?; \
 	rt ci && ./strc --keep && scripts/refuse-memory --cases && \
-	scripts/native-cases --plain --programs 300 && exit $$((documents + unused))
+	scripts/native-cases --programs 1000 --plain-programs && exit $$((documents + unused))
 
 test: build ## the examples, live runs, and what a shell can do to a run
 	scripts/examples
 	scripts/live-runs
+	scripts/out-files
 	scripts/interrupt-runs
 
 bench: prove ## times beside Lua, CPython and C, and by workers, into bench/README.md

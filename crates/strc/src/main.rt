@@ -2,28 +2,35 @@
 // handed to the library that does the work; and how long the stages of a plan took.
 #![tactic(auto)]
 
+mod node_shares;
 mod times;
+mod usage;
 
 use crate::times::times_message;
+use crate::usage::print_usage;
 use std::fs::File;
 use std::io::{ErrorKind, Write};
 use std::process::ExitCode;
 use std::sync::Wait;
 use std::thread::{Builder, Threads};
-use std::{env, thread};
+use std::{env, fs, thread};
 use strc_cli::answer::main_name;
 use strc_cli::execute::{CliError, Status};
-use strc_cli::explanation::execute_explained;
+use strc_cli::explanation::{Explained, RunPlan, execute_explained};
+use strc_cli_diagnostics::message::Message;
+use strc_cli_diagnostics::message_json::{Severity, message_json};
+use strc_cli_diagnostics::message_text::message_text;
 use strc_cli_input::device::{Sink, Source, Told};
 use strc_cli_input::watched_input::WatchedInput;
 use strc_cli_input::watched_output::WatchedOutput;
-use strc_cli_lint::lint::lint_message;
-use strc_cli_words::line::{Command, Line, LineFault};
-use strc_cli_words::words::{VERSION, asks_for_help, asks_for_version, command, usage_error};
+use strc_cli_lint::lint::lint_messages;
+use strc_cli_words::line::{Command, Format, Line, LineFault, Out};
+use strc_cli_words::words::command;
 use strc_lex::program_text::{TextFault, read_text};
 use strc_live::execute_live::execute_live;
 use strc_live::explanation::live_message;
-use strc_run::compile::Plan;
+use strc_out_files::execute_out::execute_out;
+use strc_run::run::numbers_read;
 use strc_run_links::{Gate, OpenGate, StageTimes};
 use strc_stage_steps::Stage;
 
@@ -38,7 +45,7 @@ const FAILED: u8 = 5;
 
 // The room for calls in one another, in bytes. Streams may be added in one another 64 deep, each by
 // statements 256 deep, and the walk over them calls itself for each.
-const STACK: usize = 0x1000_0000;
+const STACK: usize = 0x2000_0000;
 
 // Runs on a thread with that much room; out of memory where there can't be such a thread.
 fn main(rt: HostRuntime) -> ExitCode {
@@ -73,41 +80,65 @@ fn run<T: Threads + Wait + Sync>(rt: &HostRuntime, threads: &T) -> u8 {
         Err(_) => return out_of_memory(rt),
     };
     match command(rt.alloc(), &words) {
-        Ok(line) => run_line(rt, threads, &line),
+        Ok(line) if draws_both(&line) => {
+            let _ = eprintln!(rt;
+                "error: '--depth' and '--times' draw the graph of the program, and '--workers', \
+                '--ways' and '--fuse' what is run: leave one kind out"
+            );
+            WORDS
+        }
+        Ok(mut line) => match read_times(rt, &mut line) {
+            Ok(()) => run_line(rt, threads, &line),
+            Err(status) => status,
+        },
         Err(LineFault::Memory) => out_of_memory(rt),
         Err(LineFault::Words) => print_usage(rt, &words),
+        Err(fault) => {
+            let _ = eprintln!(rt; "error: {fault}\n\nFor more information, try '--help'.");
+            WORDS
+        }
     }
 }
 
-// Prints help, or the version, where the words ask for it; else what is wrong with them.
-fn print_usage(rt: &HostRuntime, words: &[&str]) -> u8 {
-    if asks_for_version(words) {
-        return match println!(rt; "strc {VERSION}") {
-            Ok(()) => DONE,
-            Err(_) => FAILED,
-        };
+// Whether a picture is asked for both of the program's graph, with details, and of what is run.
+fn draws_both(line: &Line) -> bool {
+    match &line.command {
+        Command::Graph {
+            workers,
+            ways,
+            fuse,
+            depth,
+            ..
+        } => {
+            (workers.is_some() || ways.is_some() || fuse.is_some())
+                && (depth.is_some() || line.times.is_some())
+        }
+        _ => false,
     }
-    let Ok(text) = usage_error(rt.alloc(), words) else {
-        return out_of_memory(rt);
+}
+
+// Reads the file of times that the line names, for its command. An error is the exit status.
+fn read_times(rt: &HostRuntime, line: &mut Line) -> Result<(), u8> {
+    let Line { command, times, .. } = line;
+    let (Some(name), Command::Graph { times, .. }) = (times.as_ref(), command) else {
+        return Ok(());
     };
-    if let Ok(true) = asks_for_help(rt.alloc(), words) {
-        return match print!(rt; "{text}") {
-            Ok(()) => DONE,
-            Err(_) => FAILED,
-        };
-    }
-    let _ = eprintln!(rt; "{text}");
-    if let Some(file) = program_in_place_of_command(words) {
-        let _ = eprintln!(rt; "  tip: to run a program, use 'strc run {file}'");
-    }
-    WORDS
-}
-
-// The file of a program, where it stands in the place of a command.
-fn program_in_place_of_command<'a>(words: &[&'a str]) -> Option<&'a str> {
-    match words.get(1) {
-        Some(word) if word.strip_suffix(".str").is_some() => Some(*word),
-        _ => None,
+    match File::open(rt, name.as_str()) {
+        Ok(mut file) => match read_text(rt.alloc(), &mut file) {
+            Ok(text) => {
+                *times = text;
+                Ok(())
+            }
+            Err(TextFault::NoMemory) => Err(out_of_memory(rt)),
+            Err(TextFault::Failed(error)) => {
+                let _ = eprintln!(rt; "strc: cannot read {name}: {error}");
+                Err(FAILED)
+            }
+        },
+        Err(error) => {
+            let _ = eprintln!(rt; "strc: cannot open {name}: {error}");
+            Err(FAILED)
+        }
     }
 }
 
@@ -138,8 +169,8 @@ fn run_line<T: Threads + Wait + Sync>(rt: &HostRuntime, threads: &T, line: &Line
     }
 }
 
-// Executes it, and tells a person on standard error what is wrong with it, and how long the stages
-// of its plan took, where that is asked for and there is memory to measure them.
+// Executes it, and tells on standard error what is wrong with it, and how long the stages of its
+// plan took, where that is asked for and there is memory to measure them.
 fn execute_text<T: Threads + Wait + Sync>(
     rt: &HostRuntime,
     threads: &T,
@@ -147,8 +178,13 @@ fn execute_text<T: Threads + Wait + Sync>(
     line: &Line,
     text: &[u8],
 ) -> u8 {
+    let telling = Telling {
+        name,
+        text,
+        format: line.format,
+    };
     if line.live {
-        return live_by(rt, name, line, text);
+        return live_by(rt, telling, line);
     }
     if let Command::Run {
         workers,
@@ -157,64 +193,151 @@ fn execute_text<T: Threads + Wait + Sync>(
     } = &line.command
     {
         if let Ok(times) = StageTimes::new(rt.alloc(), rt) {
-            let (status, plan) = explained_by(rt, threads, name, line, text, &times);
-            if let Some(plan) = &plan {
+            let (status, ran) = explained_by(rt, threads, telling, line, &times);
+            if let Some(ran) = &ran {
                 let is_done = status == DONE;
-                let lines = times_message(rt.alloc(), plan, *workers, is_done, &times);
+                tell_no_round(rt, &line.command, ran);
+                let lines = times_message(rt.alloc(), ran, *workers, is_done, &times);
                 let _ = rt.stderr().write_all(&lines);
             }
             return status;
         }
     }
-    let (status, _plan) = explained_by(rt, threads, name, line, text, &OpenGate);
+    let (status, ran) = explained_by(rt, threads, telling, line, &OpenGate);
+    if let Some(ran) = &ran {
+        tell_no_round(rt, &line.command, ran);
+    }
     if line.lint && status == DONE {
-        tell_doubts(rt, name, line, text);
+        telling.tell_doubts(rt, main_name(&line.command));
     }
     status
 }
 
-// Tells a person what may be mistakes in a text that is accepted.
-fn tell_doubts(rt: &HostRuntime, name: &str, line: &Line, text: &[u8]) {
-    if let Ok(doubts) = lint_message(rt.alloc(), name, text, main_name(&line.command)) {
-        let _ = rt.stderr().write_all(&doubts);
+// Tells a person that a run which was to have as many rounds as its input serves had none.
+fn tell_no_round(rt: &HostRuntime, command: &Command, ran: &RunPlan) {
+    if let (Command::Run { rounds: None, .. }, 0) = (command, ran.batches.rounds) {
+        let need = numbers_read(&ran.plan, 1);
+        let _ = eprintln!(rt;
+            "strc: no round was run: start-up and a round read {need} numbers of the input"
+        );
     }
 }
 
-// Executes it, each step of a stage by the gate, and tells a person what is wrong with it. What it
-// gives is the exit status, and the plan where one was run.
+// A program's text, what its file is called, and in which form it is told what is wrong with it.
+#[derive(Clone, Copy)]
+struct Telling<'a> {
+    name: &'a str,
+    text: &'a [u8],
+    format: Format,
+}
+
+impl Telling<'_> {
+    // Tells what a message says, where there is memory to write it.
+    fn tell(self, rt: &HostRuntime, severity: Severity, code: &[u8], message: &Message) {
+        let Telling { name, text, format } = self;
+        let written = match format {
+            Format::Text => message_text(rt.alloc(), name, text, message),
+            Format::Json => message_json(rt.alloc(), name, text, severity, code, message),
+        };
+        if let Ok(written) = written {
+            let _ = rt.stderr().write_all(&written);
+        }
+    }
+
+    // Tells why there is no answer, or how a run ended early.
+    fn tell_error(self, rt: &HostRuntime, code: Option<&[u8]>, message: Option<&Message>) {
+        if let Some(message) = message {
+            self.tell(rt, Severity::Error, code.unwrap_or(b""), message);
+        }
+    }
+
+    // Tells what may be mistakes in a text that is accepted.
+    fn tell_doubts(self, rt: &HostRuntime, main: Option<&str>) {
+        if let Ok(doubts) = lint_messages(rt.alloc(), self.text, main) {
+            for doubt in &doubts {
+                self.tell(rt, Severity::Warning, b"lint", doubt);
+            }
+        }
+    }
+}
+
+// Executes it, each step of a stage by the gate, and tells what is wrong with it. What it gives is
+// the exit status, and what was run, if anything was.
 fn explained_by<G: Gate<Stage>, T: Threads + Wait + Sync>(
     rt: &HostRuntime,
     threads: &T,
-    name: &str,
+    telling: Telling<'_>,
     line: &Line,
-    text: &[u8],
     gate: &G,
-) -> (u8, Option<Plan>) {
+) -> (u8, Option<RunPlan>) {
     let mut input = WatchedInput::new(rt.alloc(), Told::new(rt.stdin()));
     let mut output = WatchedOutput::new(Told::new(rt.stdout()));
-    let explained = execute_explained(
+    let (command, text) = (&line.command, telling.text);
+    if line.outs.is_empty() {
+        let explained = execute_explained(
+            threads,
+            rt.alloc(),
+            text,
+            command,
+            &mut input,
+            &mut output,
+            gate,
+        );
+        return tell_explained(rt, telling, explained, &input, &output);
+    }
+    let report = execute_out(
         threads,
         rt.alloc(),
-        name,
         text,
-        &line.command,
+        command,
+        &line.outs,
         &mut input,
         &mut output,
         gate,
     );
-    let _ = rt.stderr().write_all(&explained.message);
-    let status = status_of(rt, explained.result, &input, &output);
-    (status, explained.plan)
+    let (status, ran) = tell_explained(rt, telling, report.explained, &input, &output);
+    if write_files(rt, &line.outs, &report.texts) {
+        (status, ran)
+    } else {
+        (FAILED, ran)
+    }
 }
 
-// Runs it over the input while it comes, and tells a person what is wrong with it.
-fn live_by(rt: &HostRuntime, name: &str, line: &Line, text: &[u8]) -> u8 {
+// Tells what is wrong. What it gives is the exit status, and what was run, if anything was.
+fn tell_explained<I: Source, O: Sink>(
+    rt: &HostRuntime,
+    telling: Telling<'_>,
+    explained: Explained,
+    input: &WatchedInput<I>,
+    output: &WatchedOutput<O>,
+) -> (u8, Option<RunPlan>) {
+    telling.tell_error(rt, explained.code.as_deref(), explained.message.as_ref());
+    let status = status_of(rt, explained.result, input, output);
+    (status, explained.ran)
+}
+
+// Writes the text of each tape that goes to a file, where there are texts, and tells which file
+// can't be written. Whether all could.
+fn write_files(rt: &HostRuntime, outs: &[Out], texts: &[Vec<u8>]) -> bool {
+    let mut are_written = true;
+    for (out, text) in outs.iter().zip(texts) {
+        let file = out.file.as_str();
+        if let Err(error) = fs::write(rt, file, text) {
+            let _ = eprintln!(rt; "strc: writing the output to {file} failed: {error}");
+            are_written = false;
+        }
+    }
+    are_written
+}
+
+// Runs it over the input while it comes, and tells what is wrong with it.
+fn live_by(rt: &HostRuntime, telling: Telling<'_>, line: &Line) -> u8 {
     let mut input = WatchedInput::new(rt.alloc(), Told::new(rt.stdin()));
     let mut output = WatchedOutput::new(Told::new(rt.stdout()));
-    let report = execute_live(rt.alloc(), text, &line.command, &mut input, &mut output);
-    let main = main_name(&line.command);
-    let message = live_message(rt.alloc(), name, text, main, &report);
-    let _ = rt.stderr().write_all(&message);
+    let (command, text) = (&line.command, telling.text);
+    let report = execute_live(rt.alloc(), text, command, &mut input, &mut output);
+    let message = live_message(rt.alloc(), text, main_name(command), &report);
+    telling.tell_error(rt, None, message.as_ref());
     status_of(rt, report.result, &input, &output)
 }
 

@@ -19,7 +19,7 @@ use Rattle.strc_cli_input.specs.declared.input.ReadStop.{ReadStop}
 use Rattle.strc_cli_input.specs.declared.input.ReadStop.TheVariants as read
 use Rattle.strc_cli_input.specs.ReadInput.{WritesNumbers}
 use Rattle.strc_cli.specs.Answering.{chosen, HasSize, IsAnswered, IsInput, ReadsText}
-use Rattle.strc_cli.specs.Input.{IsInputOf, IsRunAnswer, unread}
+use Rattle.strc_cli.specs.Input.{IsInputOf, IsRunAnswer, RunsOwn, unread}
 
 -- all parts of a choice
 pub same_choice : (one other : Choice) → one.main ≡ other.main → one.ways ≡ other.ways
@@ -39,6 +39,22 @@ plan_size text choice plan is = record {
   nodes = sym (length-map plan.graph.nodes node_view);
   channels = sym (length-map plan.graph.channels channel_view);
 }
+
+-- a run of a plan is one of this plan
+pub own_run : (plan : PlanParts) (input : List ℤ) (rounds : Option ℕ) (workers : ℕ)
+    (result : Answer) → IsRunAnswer plan input rounds workers result → RunsOwn plan (Ok result)
+own_run plan input rounds workers (answer.Ran own outcome batches) runs = runs.0
+own_run plan input rounds workers (answer.Checked nodes channels) never = absurd never
+own_run plan input rounds workers (answer.Planned other) never = absurd never
+own_run plan input rounds workers (answer.Weighed other) never = absurd never
+own_run plan input rounds workers (answer.Drawn picture) never = absurd never
+own_run plan input rounds workers (answer.Emitted program) never = absurd never
+own_run plan input rounds workers (answer.Stopped why) unrun = tt
+
+pub own_unread : (plan : PlanParts) (why : ReadStop) → RunsOwn plan (unread why)
+own_unread plan (read.BadInput word) = tt
+own_unread plan read.Failed = tt
+own_unread plan read.NoMemory = tt
 
 module _ (text : List ℕ) (main : Option (String Global)) (ways fuse : ℕ) (plan : PlanParts)
     (is : IsPlanOf text (chosen main ways fuse) plan) (rounds : Option ℕ)
@@ -76,7 +92,7 @@ module _ (text : List ℕ) (main : Option (String Global)) (ways fuse : ℕ) (pl
 
     plan_answered : (result : Answer) → IsRunAnswer plan input rounds workers result
         → IsAnswered text (command.Run rounds workers ways fuse batch stats main) bytes (Ok result)
-    plan_answered (answer.Ran own outcome) runs = (
+    plan_answered (answer.Ran own outcome batches) runs = (
       subst (IsPlanOf text (chosen main ways fuse)) (sym runs.0) is,
       record {
         plan = plan;

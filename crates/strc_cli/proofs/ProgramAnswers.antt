@@ -22,7 +22,7 @@ program_answers text main bytes plan (answer.Emitted program) is given = record 
   plan = plan;
   answers = given text main is;
 }
-program_answers text main bytes plan (answer.Ran other outcome) is given = absurd given
+program_answers text main bytes plan (answer.Ran other outcome batches) is given = absurd given
 program_answers text main bytes plan (answer.Checked nodes channels) is given = absurd given
 program_answers text main bytes plan (answer.Planned other) is given = absurd given
 program_answers text main bytes plan (answer.Weighed other) is given = absurd given
@@ -41,7 +41,7 @@ program_answers text main bytes plan (answer.Stopped (stop.ArrayLimit items)) is
 pub program_located : (text : List ℕ) (command : Command) (plan : PlanParts)
     (result : Answer) → IsProgramGiven plan result
     → IsRefusedAt text command (Ok result)
-program_located text command plan (answer.Ran other outcome) given = tt
+program_located text command plan (answer.Ran other outcome batches) given = tt
 program_located text command plan (answer.Checked nodes channels) given = tt
 program_located text command plan (answer.Planned other) given = tt
 program_located text command plan (answer.Weighed other) given = tt

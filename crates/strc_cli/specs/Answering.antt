@@ -1,20 +1,26 @@
 -- What is answered for a text, a command and an input, before anything is written.
 use Rattle.std.specs.Prelude.{◌≡◌, ℕ, ℤ, Bool, true, false, List, [], length, Option, Result, Ok}
-use Rattle.std.specs.Prelude.{Err, String, string_bytes, None, unwrap_or, nat_lt, if◌then◌else◌}
+use Rattle.std.specs.Prelude.{Err, String, string_bytes, None, Some, unwrap_or, nat_lt}
+use Rattle.std.specs.Prelude.{if◌then◌else◌, ◌-◌, ◌/◌, ◌^◌}
 use Rattle.std.specs.declared.alloc.Global.{Global}
 use Rattle.std.specs.Option.{option_map}
 use Rattle.strc_cli_input.specs.ReadInput.{WritesNumbers}
 use Rattle.strc_sched_outcome.specs.declared.outcome.Outcome.{Outcome}
 use Rattle.strc_sched_outcome.specs.declared.run_refusal.RunRefusal.{RunRefusal}
 use Rattle.strc_sched_outcome.specs.declared.run_refusal.RunRefusal.TheVariants.{BadWorkers}
-use Rattle.strc_elab_stream.specs.Instances.{Stream}
+use Rattle.strc_elab_stream.specs.View.{stream_view}
+use Rattle.strc_elab_stream.specs.declared.stream.Stream.{Stream}
+use Rattle.strc_elab_paths.specs.Outlines.{outline}
+use Rattle.strc_elab_paths.specs.Paths.{labels_of}
 use Rattle.strc_fuse.specs.Units.{round_units}
-use Rattle.strc_cli_output.specs.Parts.{round_shares, startup_shares}
-use Rattle.strc_cli_output.specs.Pictures.{picture_text}
-use Rattle.strc_cli_output.specs.Stages.{plan_picture_text}
+use Rattle.strc_cli_pictures.specs.Boxes.{picture_text}
+use Rattle.strc_cli_pictures.specs.Parts.{labels_after, round_shares, startup_shares}
+use Rattle.strc_cli_pictures.specs.Stages.{plan_picture_text}
 use Rattle.strc_stage_plan.specs.Plans.{PlanParts, graph_of}
 use Rattle.strc_stage_plan.specs.Bounds.{stage_bounds}
 use Rattle.strc_stage_weights.specs.StageBounds.{weighed_bounds}
+use Rattle.strc_batch.specs.Choice.{chosen_batch}
+use Rattle.strc_run.specs.Batches.{least_rounds}
 use Rattle.strc_emit.specs.Emitting.{PassesItemLimit}
 use Rattle.strc_emit_texts.specs.Texts.{AnswersText}
 use Rattle.strc_run.specs.Accepts.{Accepts}
@@ -24,6 +30,7 @@ use Rattle.strc_run.specs.Rounds.{AreWorkers}
 use Rattle.strc_run.specs.Streams.{IsStreamOf}
 use Rattle.strc_run.specs.Refuses.{IsTrueOf}
 use Rattle.strc_run.specs.TextRuns.{IsTextRun, has_reader}
+use Rattle.strc_cli.specs.LongPlans.{HasLongPlan}
 use Rattle.strc_cli.specs.declared.execute.CliError.{CliError}
 use Rattle.strc_cli.specs.declared.execute.CliError.TheVariants as error
 use Rattle.strc_cli.specs.declared.answer.Answer.{Answer}
@@ -51,9 +58,9 @@ drawn_so ways fuse main = chosen main (unwrap_or ways 1) (unwrap_or fuse 0)
 abbrev pub choice_of : Command → Choice
 choice_of (command.Run rounds workers ways fuse batch stats main) = chosen main ways fuse
 choice_of (command.Check main) = plain main
-choice_of (command.Plan long main) = plain main
+choice_of (command.Plan long sort main) = plain main
 choice_of (command.Emit main) = plain main
-choice_of (command.Graph workers ways fuse main) = drawn_so ways fuse main
+choice_of (command.Graph workers ways fuse depth times main) = drawn_so ways fuse main
 
 -- the input of a program that reads one is what the bytes write; that of another one is empty
 abbrev pub IsInput : (reads : Bool) → (bytes : Option (List ℕ)) → List ℤ → Type 0
@@ -86,14 +93,15 @@ pub record HasSize (text : List ℕ) (choice : Choice)
   pub channels : channel_count ≡ length (graph_of plan).channels
 
 -- the text is accepted, and this is the picture of its flat graph, with the counts and the sizes of
--- its plan, in boxes as its main stream has split-joins and feedback loops
-pub record HasPicture (text : List ℕ) (choice : Choice) (picture : List ℕ) : Type 0 where
+-- its plan, in boxes as its main stream has composite streams, to this depth and with these shares
+pub record HasPicture (text : List ℕ) (choice : Choice) (depth : Option ℕ)
+    (shares : List (Option ℕ)) (picture : List ℕ) : Type 0 where
   pub plan : PlanParts
   pub planned : IsPlanOf text choice plan
   pub stream : Stream
-  pub means : IsStreamOf text choice.main stream
-  pub drawn : picture
-      ≡ picture_text stream plan.graph plan.startup_counts plan.round_counts plan.schedule.sizes
+  pub means : IsStreamOf text choice.main (stream_view stream)
+  pub drawn : picture ≡ picture_text stream plan.graph plan.startup_counts plan.round_counts
+      plan.schedule.sizes depth shares
 
 -- the text is accepted, and this is the C of its plan, which means what its main stream means
 pub record HasProgram (text : List ℕ) (choice : Choice) (program : List ℕ) : Type 0 where
@@ -112,16 +120,24 @@ run_bounds plan workers =
     if nat_lt 0 (length plan.graph.nodes) then weighed_bounds plan workers
     else stage_bounds plan.split.graph.outer_loops (round_units plan.split.schedule.round) workers
 
+-- how many rounds so many workers run at a time, where there are as many as can be
+abbrev pub run_batch : PlanParts → (workers : ℕ) → ℕ
+run_batch plan workers =
+    chosen_batch plan ((2 ^ 32 - 1) / workers) (least_rounds plan workers)
+
 -- the picture of what so many workers run: of a plan's graph after fission, in boxes of stages and
--- of fused units
-abbrev pub stages_text : PlanParts → (workers : ℕ) → List ℕ
-stages_text plan workers =
+-- of fused units, with these labels of its nodes before
+abbrev pub labelled_text : (labels : List (List ℕ)) → PlanParts → (workers : ℕ) → List ℕ
+labelled_text labels plan workers =
     let split = plan.split in
-    let round = split.schedule.round in
-    plan_picture_text split.graph
+    plan_picture_text split.graph (labels_after split.graph.nodes split.origins labels)
     (startup_shares split.graph.nodes split.origins plan.startup_counts)
     (round_shares split.graph.nodes split.origins plan.round_counts)
-    split.schedule.sizes round (run_bounds plan workers)
+    split.schedule.sizes split.schedule.round (run_bounds plan workers) (run_batch plan workers)
+
+-- with those that they have in this stream
+abbrev pub stages_text : Stream → PlanParts → (workers : ℕ) → List ℕ
+stages_text stream plan workers = labelled_text (labels_of (outline [] stream)) plan workers
 
 -- the text is accepted, and this is the picture of what so many workers run, which can run it
 pub record HasStagesPicture (text : List ℕ) (choice : Choice) (workers : ℕ) (picture : List ℕ)
@@ -129,32 +145,38 @@ pub record HasStagesPicture (text : List ℕ) (choice : Choice) (workers : ℕ) 
   pub plan : PlanParts
   pub planned : IsPlanOf text choice plan
   pub are : AreWorkers workers
-  pub drawn : picture ≡ stages_text plan workers
+  pub stream : Stream
+  pub means : IsStreamOf text choice.main (stream_view stream)
+  pub drawn : picture ≡ stages_text stream plan workers
 
--- the picture of a text's flat graph, or of what is run where one of three numbers is given
-abbrev pub IsPictureOf : List ℕ → (workers ways fuse : Option ℕ) → (main : Option (String Global))
-    → (picture : List ℕ) → Type 0
-IsPictureOf text None None None main picture = HasPicture text (drawn_so None None main) picture
-IsPictureOf text workers ways fuse main picture =
+-- the picture of a text's flat graph with shares of the time, or of what is run where one of three
+-- numbers is given
+abbrev pub IsPictureOf : List ℕ → (workers ways fuse depth : Option ℕ)
+    → (main : Option (String Global)) → (picture : List ℕ) → Type 0
+IsPictureOf text None None None depth main picture = (shares : List (Option ℕ))
+    × HasPicture text (drawn_so None None main) depth shares picture
+IsPictureOf text workers ways fuse depth main picture =
     HasStagesPicture text (drawn_so ways fuse main) (unwrap_or workers 1) picture
 
 -- an answer is what a command asks of the text: the outcome of its rounds, with its plan, the size
--- of its graph, its plan, which is told with the work of its nodes or without, its C, or a picture
+-- of its graph, its plan, or the lines of it with what is told of its nodes, its C, or a picture
 abbrev pub IsAsked : List ℕ → Command → (bytes : Option (List ℕ)) → Answer → Type 0
 IsAsked text (command.Run rounds workers ways fuse batch stats main) bytes
-    (answer.Ran plan outcome) =
+    (answer.Ran plan outcome batches) =
     IsPlanOf text (chosen main ways fuse) plan
     × RunsText text (chosen main ways fuse) rounds workers bytes (Ok outcome)
 IsAsked text (command.Check main) bytes (answer.Checked nodes channels) =
     HasSize text (plain main) nodes channels
-IsAsked text (command.Plan false main) bytes (answer.Planned plan) =
+IsAsked text (command.Plan false None main) bytes (answer.Planned plan) =
     IsPlanOf text (plain main) plan
-IsAsked text (command.Plan true main) bytes (answer.Weighed plan) =
-    IsPlanOf text (plain main) plan
+IsAsked text (command.Plan true sort main) bytes (answer.Weighed lines) =
+    HasLongPlan text (plain main) sort lines.items
+IsAsked text (command.Plan false (Some key) main) bytes (answer.Weighed lines) =
+    HasLongPlan text (plain main) (Some key) lines.items
 IsAsked text (command.Emit main) bytes (answer.Emitted program) =
     HasProgram text (plain main) program.items
-IsAsked text (command.Graph workers ways fuse main) bytes (answer.Drawn picture) =
-    IsPictureOf text workers ways fuse main picture.items
+IsAsked text (command.Graph workers ways fuse depth times main) bytes (answer.Drawn picture) =
+    IsPictureOf text workers ways fuse depth main picture.items
 IsAsked text _ bytes _ = ⊥
 
 -- a command asks for a run, which reads the input
@@ -180,7 +202,7 @@ IsStopped text command bytes (stop.BadInput word) =
 IsStopped text (command.Run rounds workers ways fuse batch stats main) bytes
     (stop.NotRun refused) =
     RunsText text (chosen main ways fuse) rounds workers bytes (Err refused)
-IsStopped text (command.Graph workers ways fuse main) bytes (stop.NotRun BadWorkers) =
+IsStopped text (command.Graph workers ways fuse depth times main) bytes (stop.NotRun BadWorkers) =
     HasBadWorkers text (drawn_so ways fuse main) (unwrap_or workers 1)
 IsStopped text (command.Emit main) bytes (stop.ArrayLimit items) =
     HasTooManyItems text (plain main) items
@@ -195,6 +217,14 @@ IsAnswered text command bytes (Ok answer) = IsAsked text command bytes answer
 IsAnswered text command bytes (Err error.Read) = ReadsInput text command
 IsAnswered text command bytes (Err error.Memory) = ReadsInput text command
 IsAnswered text command bytes (Err error.Write) = ⊥
+
+-- a plan and the stream that it is the plan of are answered, whatever text they are of
+abbrev pub AnswersCompiled : PlanParts → Stream → Command → (bytes : Option (List ℕ))
+    → Result Answer CliError → Type 0
+AnswersCompiled plan stream command bytes result = (text : List ℕ)
+    → IsPlanOf text (choice_of command) plan
+    → IsStreamOf text (choice_of command).main (stream_view stream)
+    → IsAnswered text command bytes result
 
 -- a run of a plan is answered, whatever text it is the plan of
 abbrev pub AnswersPlan : PlanParts → (rounds : Option ℕ) → (workers : ℕ)

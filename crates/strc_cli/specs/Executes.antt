@@ -17,14 +17,13 @@ use Rattle.strc_run_refusal.specs.declared.refusal.Refusal.TheVariants as refusa
 use Rattle.strc_cli.specs.Answering.{IsAnswered}
 use Rattle.strc_elab_graph.specs.NodeView.{node_names}
 use Rattle.strc_cli_output.specs.Output.{check_line, outcome_text, plan_text, stop_line}
-use Rattle.strc_cli_output.specs.Works.{long_plan_text}
 
 -- all that is written: what the run printed, the lines of a plan, a picture, C, or one line
 abbrev pub answer_text : Answer → List ℕ
-answer_text (answer.Ran plan outcome) = outcome_text (node_names plan.graph) outcome
+answer_text (answer.Ran plan outcome batches) = outcome_text (node_names plan.graph) outcome
 answer_text (answer.Checked nodes channels) = check_line nodes channels
 answer_text (answer.Planned plan) = plan_text plan
-answer_text (answer.Weighed plan) = long_plan_text plan
+answer_text (answer.Weighed lines) = lines.items
 answer_text (answer.Drawn picture) = picture.items
 answer_text (answer.Emitted program) = program.items
 answer_text (answer.Stopped stop) = stop_line stop
@@ -42,11 +41,11 @@ run_refusal_status refused = status.Refused
 
 -- the status that belongs to what is written
 abbrev pub answer_status : Answer → Status
-answer_status (answer.Ran plan (outcome.Done tapes)) = status.Done
-answer_status (answer.Ran plan (outcome.Fault node firing round cause tapes)) = status.Fault
+answer_status (answer.Ran plan (outcome.Done tapes) batches) = status.Done
+answer_status (answer.Ran plan (outcome.Fault node firing round cause tapes) batches) = status.Fault
 answer_status (answer.Checked nodes channels) = status.Done
 answer_status (answer.Planned plan) = status.Done
-answer_status (answer.Weighed plan) = status.Done
+answer_status (answer.Weighed lines) = status.Done
 answer_status (answer.Drawn picture) = status.Done
 answer_status (answer.Emitted program) = status.Done
 answer_status (answer.Stopped (stop.Refused placed)) = refusal_status placed.refusal

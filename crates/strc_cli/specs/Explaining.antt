@@ -1,13 +1,16 @@
 -- What a person reads of an answer, and where a text is refused.
-use Rattle.std.specs.Prelude.{◌≡◌, ◌⊎◌, ⊤, ℕ, List, [], Option, Result, Ok, Err}
+use Rattle.std.specs.Prelude.{◌≡◌, ⊤, ℕ, Bool, ◌==◌, not, List, codes, drop, length, take_while}
+use Rattle.std.specs.Prelude.{Option, None, IfSome, Result, Ok, Err}
 use Rattle.strc_run.specs.Located.{IsLocated}
 use Rattle.strc_sched_outcome.specs.declared.outcome.Outcome.TheVariants as outcome
 use Rattle.strc_cli_messages.specs.Told.{TellsFaultOfText, TellsOfText}
+use Rattle.strc_cli_diagnostics.specs.Messages.{MessageView}
+use Rattle.strc_cli_output.specs.Output.{stop_line}
 use Rattle.strc_cli_output.specs.declared.stop.Stop.TheVariants as stop
 use Rattle.strc_cli.specs.declared.answer.Answer.{Answer}
 use Rattle.strc_cli.specs.declared.answer.Answer.TheVariants as answer
 use Rattle.strc_cli.specs.declared.execute.CliError.{CliError}
-use Rattle.strc_cli.specs.declared.execute.Status.{Status}
+use Rattle.strc_cli.specs.declared.explanation.Explained.{Explained}
 use Rattle.strc_cli_words.specs.declared.line.Command.{Command}
 use Rattle.strc_cli.specs.Answering.{IsAnswered, choice_of}
 use Rattle.strc_cli.specs.Executes.{Device, IsReported}
@@ -24,30 +27,40 @@ IsUnrefused (Ok (answer.Stopped (stop.Refused placed))) = ⊥
 IsUnrefused _ = ⊤
 
 -- a message about a refusal of the text, or a fault of its run; of other ends it isn't said here
-abbrev pub TellsOf : (file text : List ℕ) → (asked : Option (List ℕ)) → Answer
-    → (message : List ℕ) → Type 0
-TellsOf file text asked (answer.Stopped (stop.Refused placed)) message =
-    TellsOfText file text asked placed message
-TellsOf file text asked (answer.Ran plan (outcome.Fault node firing round cause tapes))
-    message = TellsFaultOfText file text plan.graph.nodes node firing cause message
-TellsOf file text asked _ message = ⊤
+abbrev pub TellsOf : (text : List ℕ) → (asked : Option (List ℕ)) → Answer → MessageView → Type 0
+TellsOf text asked (answer.Stopped (stop.Refused placed)) message =
+    TellsOfText text asked placed message
+TellsOf text asked (answer.Ran plan (outcome.Fault node firing round cause tapes) batches) message =
+    TellsFaultOfText text plan.graph.nodes node firing round cause message
+TellsOf text asked _ message = ⊤
 
--- there is such a message, or none where memory runs out
-abbrev pub MayTellOf : (file text : List ℕ) → (asked : Option (List ℕ)) → Answer
-    → (message : List ℕ) → Type 0
-MayTellOf file text asked answer message =
-    (message ≡ []) ⊎ TellsOf file text asked answer message
+-- what follows the first word of a refusal's line, `refused`
+abbrev pub after_first : (line : List ℕ) → List ℕ
+after_first line = drop (length (codes "refused ")) line
 
--- an answer is explained
-abbrev pub Explains : (file text : List ℕ) → Command → Result Answer CliError
-    → (message : List ℕ) → Type 0
-Explains file text command (Ok answer) message = IsRefusedAt text command (Ok answer)
-    × MayTellOf file text (choice_of command).main answer message
-Explains file text command (Err failure) message = message ≡ []
+abbrev pub is_space : ℕ → Bool
+is_space byte = byte == 32
 
--- what is reported is the answer for this text, command and input, and the message explains it
-abbrev pub ExecutesExplained : (file text : List ℕ) → Command → (bytes : Option (List ℕ))
-    → Result Status CliError → (message : List ℕ) → Device → Device → Type 0
-ExecutesExplained file text command bytes result message before after =
+-- the bytes of a text up to its first space
+abbrev pub first_word : (text : List ℕ) → List ℕ
+first_word text = take_while (λ byte. not (is_space byte)) text
+
+-- the code of why there is no answer: the second word of its line
+abbrev pub IsCodeOf : Answer → (code : List ℕ) → Type 0
+IsCodeOf (answer.Stopped stop) code = code ≡ first_word (after_first (stop_line stop))
+IsCodeOf _ code = ⊥
+
+-- an answer is explained, unless there is no message: there is nothing to say, or no memory
+abbrev pub Explains : (text : List ℕ) → Command → Result Answer CliError → Explained → Type 0
+Explains text command (Ok answer) explained = IsRefusedAt text command (Ok answer)
+    × IfSome explained.message (TellsOf text (choice_of command).main answer)
+    × IfSome explained.code (λ code. IsCodeOf answer code.items)
+Explains text command (Err failure) explained =
+    (explained.message ≡ None) × (explained.code ≡ None)
+
+-- what is reported is the answer for this text, command and input, and it is explained
+abbrev pub ExecutesExplained : (text : List ℕ) → Command → (bytes : Option (List ℕ)) → Explained
+    → Device → Device → Type 0
+ExecutesExplained text command bytes explained before after =
     (answer : Result Answer CliError) × IsAnswered text command bytes answer
-    × IsReported answer result before after × Explains file text command answer message
+    × IsReported answer explained.result before after × Explains text command answer explained

@@ -1,5 +1,7 @@
 pub mod Answering
 pub mod Drawing
+pub mod LongPlans
+pub mod Weighing
 pub mod Executes
 pub mod Explaining
 pub mod Input

@@ -1,16 +1,19 @@
 // What a command is answered for a text, before anything is written.
 
-ghost use Rattle.std.specs.Prelude.{◌≡◌, ◌≢◌, ◌⊎◌, true, Err, IfOk};
+ghost use Rattle.std.specs.Prelude.{◌≡◌, ◌≢◌, ◌⊎◌, ℕ, List, true, Err, IfOk};
 ghost use Rattle.std.specs.Option.{option_map};
 ghost use Rattle.strc_run.specs.Choices as choices;
+ghost use Rattle.strc_run.specs.Plans.{IsPlanOf};
 ghost use Rattle.strc_run.specs.Rounds.{plan_reads};
-ghost use Rattle.strc_cli.specs.Answering.{AnswersPlan, IsAnswered, ReadsInput, choice_of};
+ghost use Rattle.strc_cli.specs.Answering.{AnswersCompiled, AnswersPlan, IsAnswered, ReadsInput};
+ghost use Rattle.strc_cli.specs.Answering.{choice_of};
 ghost use Rattle.strc_cli.specs.Explaining.{IsRefusedAt, IsUnrefused};
 ghost use Rattle.strc_cli.specs.Input as spec;
-ghost use Rattle.strc_cli.specs.Input.{IsInputOf, IsRunAnswer};
+ghost use Rattle.strc_cli.specs.Input.{AreAnswerBatches, IsInputOf, IsRunAnswer, RunsOwn};
 
 use crate::execute::CliError;
-use crate::plan_pictures::{drawn, stages_drawn};
+use crate::long_plans::weighed;
+use crate::plan_pictures::{graph_drawn, stages_drawn};
 use crate::programs::emitted;
 use std::alloc::{AllocError, Global};
 use std::sync::Wait;
@@ -20,12 +23,12 @@ use strc_cli_input::input::{ReadStop, read_numbers};
 use strc_cli_output::stop::Stop;
 use strc_cli_words::line::Command;
 use strc_cli_words::words::{BARE_FUSE, BARE_WAYS, BARE_WORKERS};
-use strc_run::compile::{Plan, compile_or_where};
-use strc_run::laws::{accepted_or_refused, plans_answer_texts};
+use strc_run::compile::{Compiled, Plan, compile_whole};
+use strc_run::laws::plans_answer_texts;
 use strc_run::options::Options;
 use strc_run::refusal::Refusal;
 use strc_run::run::{Outcome, RunRefusal, reads_input, run_shared};
-use strc_run::sharing::{Batching, Sharing};
+use strc_run::sharing::{Batches, Batching, Sharing};
 use strc_run_links::Gate;
 use strc_run_refusal::placed_refusal::PlacedRefusal;
 use strc_stage_steps::Stage;
@@ -33,14 +36,14 @@ use strc_stage_steps::Stage;
 /// What a command comes to for a text.
 #[derive(Drop)]
 pub enum Answer {
-    /// How its run ended, with the plan that was run.
-    Ran(Plan, Outcome),
+    /// How its run ended, with the plan that was run, and by which batches.
+    Ran(Plan, Outcome, Batches),
     /// How many nodes and channels its flat graph has.
     Checked { nodes: usize, channels: usize },
     /// Its plan.
     Planned(Plan),
-    /// Its plan, of which the work of its nodes is to be told too.
-    Weighed(Plan),
+    /// The lines of its plan, with the path, the work and the buffers of each node.
+    Weighed(Vec<u8>),
     /// The picture of its flat graph, or of what is run.
     Drawn(Vec<u8>),
     /// Its C.
@@ -68,15 +71,34 @@ pub fn answer_to<G: Gate<Stage>, R: Threads + Wait + Sync, I: Source>(
     // Of a refusal the statement that breaks the text's rule is known, the stream and the graph.
     ensures located { IsRefusedAt text.now command.now result }
 {
-    // An accepted text isn't refused.
-    accepted_or_refused();
     let Ok(options) = options_of(alloc, command) else {
         return Ok(Answer::Stopped(Stop::Refused(PlacedRefusal::from(Refusal::NoMemory))));
     };
-    let plan = match compile_or_where(alloc, text, &options) {
-        Ok(plan) => plan,
+    let compiled = match compile_whole(alloc, text, &options) {
+        Ok(compiled) => compiled,
         Err(placed) => return Ok(Answer::Stopped(Stop::Refused(placed))),
     };
+    answer_compiled(rt, alloc, command, compiled, input, gate)
+}
+
+// The answer to a command, by the plan of its text and its main stream, whatever text they are of.
+fn answer_compiled<G: Gate<Stage>, R: Threads + Wait + Sync, I: Source>(
+    rt: &R,
+    alloc: Global,
+    command: &Command,
+    compiled: Compiled,
+    input: &mut I,
+    gate: &G,
+) -> Result<Answer, CliError>
+    ensures answered { AnswersCompiled compiled.plan compiled.stream command.now
+        (I.remaining input.old) result }
+    ensures failed { result ≡ Err CliError.Read → I.has_failed input.new ≡ true }
+    ensures steady { result ≢ Err CliError.Read → I.has_failed input.new ≡ I.has_failed input.old }
+    ensures unread { (input.new ≡ input.old) ⊎ ((text : List ℕ)
+        → IsPlanOf text (choice_of command.now) compiled.plan → ReadsInput text command.now) }
+    ensures located { (text : List ℕ) → IsRefusedAt text command.now result }
+{
+    let Compiled { plan, stream } = compiled;
     match command {
         Command::Run {
             rounds,
@@ -86,43 +108,39 @@ pub fn answer_to<G: Gate<Stage>, R: Threads + Wait + Sync, I: Source>(
             batch,
             stats: _,
             main: _,
-        } => run_plan(
-            rt,
-            alloc,
-            plan,
-            *rounds,
-            sharing_of(*workers, *batch),
-            input,
-            gate,
-        ),
+        } => {
+            drop(stream);
+            let sharing = sharing_of(*workers, *batch);
+            run_plan(rt, alloc, plan, *rounds, sharing, input, gate)
+        }
         Command::Check { main: _ } => Ok(Answer::Checked {
             nodes: plan.graph().nodes().len(),
             channels: plan.graph().channels().len(),
         }),
         Command::Plan {
             long: false,
+            sort: None,
             main: _,
         } => Ok(Answer::Planned(plan)),
-        Command::Plan {
-            long: true,
-            main: _,
-        } => Ok(Answer::Weighed(plan)),
+        Command::Plan { sort, .. } => Ok(weighed(alloc, &stream, &plan, *sort)),
         Command::Emit { main: _ } => Ok(emitted(alloc, &plan)),
         Command::Graph {
             workers: None,
             ways: None,
             fuse: None,
+            depth,
+            times,
             main: _,
-        } => Ok(drawn(alloc, text, &options, &plan)),
+        } => Ok(graph_drawn(alloc, &stream, &plan, *depth, times)),
         Command::Graph { workers, .. } => {
             let workers = workers.unwrap_or(BARE_WORKERS);
-            Ok(stages_drawn(alloc, &plan, workers))
+            Ok(stages_drawn(alloc, &stream, &plan, workers))
         }
     }
 }
 
-// The outcome of so many rounds of a plan by so many workers, for whatever text's plan this is.
-fn run_plan<G: Gate<Stage>, R: Threads + Wait + Sync, I: Source>(
+/// The outcome of so many rounds of a plan by so many workers, for whatever text's plan this is.
+pub fn run_plan<G: Gate<Stage>, R: Threads + Wait + Sync, I: Source>(
     rt: &R,
     alloc: Global,
     plan: Plan,
@@ -137,6 +155,7 @@ fn run_plan<G: Gate<Stage>, R: Threads + Wait + Sync, I: Source>(
     ensures unread { (input.new ≡ input.old)
         ⊎ (plan_reads plan ≡ true) }
     ensures unrefused { IsUnrefused result }
+    ensures own { RunsOwn plan result }
 {
     // The answer for the plan is the answer for its text.
     plans_answer_texts();
@@ -183,16 +202,17 @@ fn run_numbers<G: Gate<Stage>, R: Threads + Wait + Sync>(
     input: &[i32],
     gate: &G,
 ) -> Answer
-    ensures { IsRunAnswer plan input.now rounds sharing.workers result }
+    ensures run { IsRunAnswer plan input.now rounds sharing.workers result }
+    ensures batches { AreAnswerBatches plan input.now rounds sharing result }
 {
     match run_shared(rt, alloc, &plan, input, rounds, sharing, gate) {
-        Ok(outcome) => Answer::Ran(plan, outcome),
+        Ok(run) => Answer::Ran(plan, run.outcome, run.batches),
         Err(refusal) => Answer::Stopped(Stop::NotRun(refusal)),
     }
 }
 
-// By how many workers, and how many rounds at a time, a run is shared.
-fn sharing_of(workers: u32, batch: Option<u32>) -> Sharing
+/// By how many workers, and how many rounds at a time, a run is shared.
+pub fn sharing_of(workers: u32, batch: Option<u32>) -> Sharing
     ensures workers { result.workers ≡ workers }
     ensures batching { result.batching ≡ spec.batching_of batch }
 {

@@ -14,7 +14,6 @@ use strc_cli_input::device::{Sink, Source};
 use strc_cli_output::outcome::outcome_text;
 use strc_cli_output::output::{check_text, plan_text, stop_text};
 use strc_cli_output::stop::Stop;
-use strc_cli_output::works::long_plan_text;
 use strc_cli_words::line::Command;
 use strc_run::refusal::Refusal;
 use strc_run::run::{Outcome, RunRefusal};
@@ -127,23 +126,23 @@ fn answer_text(alloc: Global, answer: &Answer) -> Result<Vec<u8>, AllocError>
     ensures { IfOk result (λ text. text.items ≡ spec.answer_text answer.now) }
 {
     match answer {
-        Answer::Ran(plan, outcome) => outcome_text(alloc, plan.graph(), outcome),
+        Answer::Ran(plan, outcome, _) => outcome_text(alloc, plan.graph(), outcome),
         Answer::Checked { nodes, channels } => check_text(alloc, *nodes, *channels),
         Answer::Planned(plan) => plan_text(alloc, plan),
-        Answer::Weighed(plan) => long_plan_text(alloc, plan),
+        Answer::Weighed(lines) => lines.to_vec(alloc),
         Answer::Drawn(picture) => picture.to_vec(alloc),
         Answer::Emitted(program) => program.to_vec(alloc),
         Answer::Stopped(stop) => stop_text(alloc, stop),
     }
 }
 
-// The status of an answer.
-fn answer_status(answer: &Answer) -> Status
+/// The status of an answer.
+pub fn answer_status(answer: &Answer) -> Status
     ensures { result ≡ spec.answer_status answer.now }
 {
     match answer {
-        Answer::Ran(_, Outcome::Done(_)) => Status::Done,
-        Answer::Ran(_, Outcome::Fault { .. }) => Status::Fault,
+        Answer::Ran(_, Outcome::Done(_), _) => Status::Done,
+        Answer::Ran(_, Outcome::Fault { .. }, _) => Status::Fault,
         Answer::Checked { .. } => Status::Done,
         Answer::Planned(_) => Status::Done,
         Answer::Weighed(_) => Status::Done,

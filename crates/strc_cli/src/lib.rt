@@ -13,6 +13,7 @@
 pub mod answer;
 pub mod execute;
 pub mod explanation;
+mod long_plans;
 mod plan_pictures;
 mod programs;
 

@@ -8,8 +8,11 @@ use memchr::memchr_iter;
 use std::alloc::{AllocError, Global};
 use std::io;
 
-// How many bytes of a word are kept and shown.
+// How many bytes of a word are shown.
 const SHOWN: usize = 40;
+
+// How many are kept: one more tells that the word is longer.
+const KEPT: usize = SHOWN + 1;
 
 /// An input whose last bytes are kept, with how many lines end before them.
 #[derive(Drop)]
@@ -17,7 +20,7 @@ pub struct WatchedInput<I> {
     input: I,
     /// How many lines end before the bytes of the last read.
     lines: u64,
-    /// How a word begins that goes on in these bytes; at most 40 bytes of it.
+    /// How a word begins that goes on in these bytes; at most 41 bytes of it.
     begun: Vec<u8>,
     /// The bytes of the last read.
     piece: Vec<u8>,
@@ -26,7 +29,7 @@ pub struct WatchedInput<I> {
 /// A word of the input.
 #[derive(Drop)]
 struct FoundWord {
-    /// At most 40 bytes of it.
+    /// At most 41 bytes of it.
     bytes: Vec<u8>,
     /// Where it begins in the bytes of the last read; 0 where it begins before them.
     begin: usize,
@@ -46,8 +49,8 @@ impl<I> WatchedInput<I> {
     }
 
     /// A line that shows the first word of the last read that writes no number, and in which line
-    /// of the input it is, from 1; no bytes where there is none. An error comes where memory runs
-    /// out.
+    /// of the input it is, from 1; no bytes where there is none. Of a long word 40 bytes are shown,
+    /// and `..`; one that a terminal might obey as `\x1b`. An error comes where memory runs out.
     pub fn wrong_word_line(&self, alloc: Global) -> Result<Vec<u8>, AllocError> {
         let mut line = Vec::new(alloc);
         let Some(word) = self.wrong_word(alloc)? else {
@@ -59,7 +62,7 @@ impl<I> WatchedInput<I> {
             .saturating_add(lines_in(before))
             .saturating_add(1);
         line.extend_from_slice(b"hint: this is `")?;
-        line.extend_from_slice(&word.bytes)?;
+        push_shown(alloc, &mut line, &word.bytes)?;
         let place = format!(in alloc; "`, in line {number}\n")?;
         line.extend_from_slice(place.as_bytes())?;
         Ok(line)
@@ -72,7 +75,7 @@ impl<I> WatchedInput<I> {
         for at in 0..self.piece.len() {
             let byte = self.piece[at];
             if !byte.is_ascii_whitespace() {
-                push_shown(&mut bytes, byte)?;
+                push_kept(&mut bytes, byte)?;
                 continue;
             }
             if writes_none(&bytes) {
@@ -140,7 +143,7 @@ fn push_begun(begun: &mut Vec<u8>, bytes: &[u8]) -> Result<(), AllocError> {
         begun.clear();
     }
     for byte in &bytes[begin..] {
-        push_shown(begun, *byte)?;
+        push_kept(begun, *byte)?;
     }
     Ok(())
 }
@@ -158,10 +161,26 @@ fn last_begin(bytes: &[u8]) -> usize
     0
 }
 
-/// A byte more of a word that is shown; one that a terminal might obey stands as a question mark.
-fn push_shown(word: &mut Vec<u8>, byte: u8) -> Result<(), AllocError> {
-    if word.len() < SHOWN {
-        word.push(if byte.is_ascii_control() { b'?' } else { byte })?;
+/// A byte more of a word, of which so many are kept.
+fn push_kept(word: &mut Vec<u8>, byte: u8) -> Result<(), AllocError> {
+    if word.len() < KEPT {
+        word.push(byte)?;
+    }
+    Ok(())
+}
+
+/// Adds how a word begins.
+fn push_shown(alloc: Global, line: &mut Vec<u8>, word: &[u8]) -> Result<(), AllocError> {
+    for byte in &word[..word.len().min(SHOWN)] {
+        if byte.is_ascii_control() {
+            let code = format!(in alloc; "\\x{:02x}", *byte)?;
+            line.extend_from_slice(code.as_bytes())?;
+        } else {
+            line.push(*byte)?;
+        }
+    }
+    if word.len() > SHOWN {
+        line.extend_from_slice(b"..")?;
     }
     Ok(())
 }

@@ -83,7 +83,7 @@ fn look_at(
             if !is_masked && keeps_sign(operator.kind(), left) {
                 findings.push(Finding {
                     place,
-                    doubt: Doubt::KeepsSign,
+                    doubt: Doubt::KeepsSign(second),
                 })?;
             }
             value_of(operator.kind(), first, second, place, findings)
@@ -134,9 +134,27 @@ fn value_of(
     }
 }
 
-/// Whether an operator is a shift to the right of what may be negative.
+/// Whether an operator is a shift to the right of what may be negative, and isn't computed as
+/// numbers are: a product or a sum is scaled by the shift, and keeps its sign.
 fn keeps_sign(operator: BinaryOperator, left: &Expr) -> bool {
-    matches!(operator, BinaryOperator::ShiftRight) && !is_natural(left)
+    matches!(operator, BinaryOperator::ShiftRight) && !is_natural(left) && !is_computed(left)
+}
+
+/// Whether a value is a sum, a difference, a product or a quotient.
+#[cycle(computed)]
+fn is_computed(value: &Expr) -> bool {
+    match value {
+        Expr::Group(inner) => is_computed(inner),
+        Expr::Unary(UnaryOperator::Negate, _) => true,
+        Expr::Binary(operator, _, _) => match operator.kind() {
+            BinaryOperator::Add
+            | BinaryOperator::Subtract
+            | BinaryOperator::Multiply
+            | BinaryOperator::Divide => true,
+            _ => false,
+        },
+        _ => false,
+    }
 }
 
 /// Whether a number can be seen to be at least 0: it is a constant, or bits of it that a constant

@@ -60,10 +60,11 @@ pub(crate) fn moves_items_singly(graph: &Graph) -> bool {
     })
 }
 
-/// Whether a filter keeps nothing from firing to firing, so that it can be split.
+/// Whether a filter, or `Identity`, keeps nothing from firing to firing, so that it can be split.
 pub(crate) fn has_stateless_filter(graph: &Graph) -> bool {
     graph.nodes().iter().any(|node| match node {
         Node::Filter(filter) => filter.code.is_stateless(),
+        Node::Identity => true,
         _ => false,
     })
 }

@@ -2,38 +2,58 @@
 
 use crate::finding::{Doubt, Finding};
 use std::alloc::Global;
-use strc_cli_source::message::Message;
-use strc_cli_source::nodes::push_node;
+use strc_cli_diagnostics::message::{Message, MessageKind};
+use strc_cli_source::nodes::{NamedGraph, push_node};
 use strc_cli_source::source::Source;
-use strc_elab_graph::graph::Graph;
 use strc_lex_names::memory::NoMemory;
+use strc_lex_names::place::Span;
 
 /// The message of a part of a text.
 pub(crate) fn finding_message(
     alloc: Global,
     source: Source<'_>,
     finding: Finding,
-) -> Result<Vec<u8>, NoMemory> {
+) -> Result<Message, NoMemory> {
     let mut message = Message::new(alloc);
-    message.add(b"warning: ")?;
     match finding.doubt {
         Doubt::NeverAdded => message.add(
             b"this stream is added nowhere: nothing of it is checked",
         )?,
         Doubt::Wraps(exact, wrapped) => push_wrapping(alloc, &mut message, exact, wrapped)?,
-        Doubt::KeepsSign => message.add(b"`>>` keeps the sign of a negative number")?,
+        Doubt::KeepsSign(by) => {
+            message.add(b"`>>` keeps the sign of a negative number")?;
+            push_mask(&mut message, by)?;
+        }
+        Doubt::NoEffect => message.add(b"this computes a value that nothing takes")?,
+        Doubt::EmptyBranch => message.add(b"the `;` ends this `if`: nothing is done by it")?,
+        Doubt::NoReturn => message.add(
+            b"this helper function may end without `return`: it gives 0 or false then",
+        )?,
     }
-    let place = match (finding.doubt, finding.place) {
-        (Doubt::NeverAdded, place) => place,
+    Ok(message.about(MessageKind::Warning, marked_place(source, finding)))
+}
+
+/// What is marked: a name, or a statement up to its first block.
+fn marked_place(source: Source<'_>, finding: Finding) -> Option<Span> {
+    match (finding.doubt, finding.place) {
+        (Doubt::NeverAdded | Doubt::NoReturn, place) => place,
         (_, Some(place)) => Some(source.heading(place)),
         (_, None) => None,
-    };
-    source.excerpt(&mut message, place)?;
-    if let Doubt::KeepsSign = finding.doubt {
-        message.hint()?;
-        message.add(b"to shift zeros in, take the bits that stay: `x >> 8 & 16777215`")?;
     }
-    source.message(alloc, place, message)
+}
+
+/// How zeros are shifted in, by so many bits where that is known.
+fn push_mask(message: &mut Message, by: Option<i32>) -> Result<(), NoMemory> {
+    let bits = match by {
+        Some(by) if 0 < by && by < 32 => by as u32,
+        _ => 8,
+    };
+    message.hint()?;
+    message.add(b"to shift zeros in, take the bits that stay: `x >> ")?;
+    message.number(u64::from(bits))?;
+    message.add(b" & ")?;
+    message.number(u64::from(u32::MAX >> bits))?;
+    Ok(message.add(b"`")?)
 }
 
 /// What operators of constants come to, and what is left of it.
@@ -50,37 +70,27 @@ fn push_wrapping(
 /// The message of a node on which no output depends.
 pub(crate) fn node_message(
     alloc: Global,
-    source: Source<'_>,
-    graph: &Graph,
+    named: NamedGraph<'_>,
     node: usize,
-) -> Result<Vec<u8>, NoMemory> {
+) -> Result<Message, NoMemory> {
     let mut message = Message::new(alloc);
-    message.add(b"warning: no output depends on ")?;
-    push_node(&mut message, Some(graph), node)?;
-    source.message(alloc, None, message)
+    message.add(b"no output depends on ")?;
+    push_node(&mut message, Some(named), node)?;
+    Ok(message.about(MessageKind::Warning, None))
 }
 
 /// How many more there are.
-pub(crate) fn more_message(
-    alloc: Global,
-    source: Source<'_>,
-    more: usize,
-) -> Result<Vec<u8>, NoMemory> {
+pub(crate) fn more_message(alloc: Global, more: usize) -> Result<Message, NoMemory> {
     let mut message = Message::new(alloc);
     message.add(b"and ")?;
     message.number(more as u64)?;
     message.add(b" more warnings")?;
-    source.message(alloc, None, message)
+    Ok(message)
 }
 
 /// A remark on the whole program.
-pub(crate) fn remark_message(
-    alloc: Global,
-    source: Source<'_>,
-    remark: &[u8],
-) -> Result<Vec<u8>, NoMemory> {
+pub(crate) fn remark_message(alloc: Global, remark: &[u8]) -> Result<Message, NoMemory> {
     let mut message = Message::new(alloc);
-    message.add(b"note: ")?;
     message.add(remark)?;
-    source.message(alloc, None, message)
+    Ok(message.about(MessageKind::Note, None))
 }

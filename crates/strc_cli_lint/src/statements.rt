@@ -1,10 +1,13 @@
 // What may be a mistake in statements, and in the members of filters.
 
+use crate::effects::{has_effect, is_empty, returns};
 use crate::expressions::{look_at_option, look_at_value, look_at_values, look_at_variables};
-use crate::finding::Finding;
+use crate::finding::{Doubt, Finding};
 use strc_lex_names::memory::NoMemory;
 use strc_lex_names::place::Span;
-use strc_parse_tree::tree::{Child, Composition, Expr, Member, RateTree, Splitter, Stmt};
+use strc_parse_tree::tree::{
+    Child, Composition, Expr, HelperType, Member, RateTree, Splitter, Stmt,
+};
 
 /// Looks at statements in a row; without a place of its own, one is part of what is written here.
 #[cycle(statement)]
@@ -30,16 +33,22 @@ fn look_at_statement(
         Stmt::Placed(here, inner) => look_at_statement(inner, Some(*here), findings),
         Stmt::Block(block) => look_at_block(block, place, findings),
         Stmt::Declare(declared) => look_at_variables(declared, findings),
-        Stmt::Evaluate(value)
-        | Stmt::Assign(_, _, value)
-        | Stmt::Push(value)
-        | Stmt::Print(value)
-        | Stmt::Println(value) => look_at_value(value, place, findings),
+        Stmt::Evaluate(value) => {
+            find_if(!has_effect(value), Doubt::NoEffect, place, findings)?;
+            look_at_value(value, place, findings)
+        }
+        Stmt::Assign(_, _, value) | Stmt::Push(value) | Stmt::Print(value) | Stmt::Println(value) =>
+            look_at_value(value, place, findings),
         Stmt::AssignElement(_, index, _, value) => {
             look_at_value(index, place, findings)?;
             look_at_value(value, place, findings)
         }
-        Stmt::If(condition, inner) | Stmt::While(condition, inner) => {
+        Stmt::If(condition, inner) => {
+            find_if(is_empty(inner), Doubt::EmptyBranch, place, findings)?;
+            look_at_value(condition, place, findings)?;
+            look_at_statement(inner, place, findings)
+        }
+        Stmt::While(condition, inner) => {
             look_at_value(condition, place, findings)?;
             look_at_statement(inner, place, findings)
         }
@@ -105,14 +114,38 @@ pub(crate) fn look_at_members(
 fn look_at_member(member: &Member, findings: &mut Vec<Finding>) -> Result<(), NoMemory> {
     match member {
         Member::Fields(declared) => look_at_variables(declared, findings),
-        Member::Init(block) | Member::Helper(_, _, _, block) => look_at_block(
-            block, None, findings,
-        ),
+        Member::Init(block) => look_at_block(block, None, findings),
+        Member::Helper(kind, name, _, block) => {
+            let lacks_value = gives_value(kind) && !returns(block);
+            find_if(lacks_value, Doubt::NoReturn, name.place(), findings)?;
+            look_at_block(block, None, findings)
+        }
         Member::Prework(rates, block) | Member::Work(rates, block) => {
             look_at_rates(rates, findings)?;
             look_at_block(block, None, findings)
         }
     }
+}
+
+/// Whether a helper function gives a value.
+fn gives_value(kind: &HelperType) -> bool {
+    match kind {
+        HelperType::Int | HelperType::Boolean => true,
+        HelperType::Void => false,
+    }
+}
+
+/// A doubt of what is written here, where there is reason for it.
+fn find_if(
+    is_doubtful: bool,
+    doubt: Doubt,
+    place: Option<Span>,
+    findings: &mut Vec<Finding>,
+) -> Result<(), NoMemory> {
+    if is_doubtful {
+        findings.push(Finding { place, doubt })?;
+    }
+    Ok(())
 }
 
 /// Looks at the rates of a body.

@@ -1,2 +1,3 @@
+pub mod Sentences
 pub mod Sites
 pub mod Told

@@ -93,4 +93,5 @@ site_of text tokens program placed =
       place =
           place_of text tokens program placed.refusal placed.statement placed.site.place;
       mismatch = placed.site.mismatch;
+      trapped = placed.site.trapped;
     }

@@ -1,8 +1,7 @@
 -- What a message tells of a refusal or a fault: the part of the text that it is about.
 use Rattle.std.specs.Prelude.{◌≡◌, ◌⊎◌, ⊤, ℕ, ◌+◌, Bool, List, [], drop, find, position, slice_get}
-use Rattle.std.specs.Prelude.{Option, Some, None, IfSome, Vec}
+use Rattle.std.specs.Prelude.{Option, Some, None, IfSome}
 use Rattle.std.specs.Option.{option_and_then}
-use Rattle.std.specs.declared.alloc.Global.{Global}
 use Rattle.strc_lex_names.specs.declared.place.Span.{Span}
 use Rattle.strc_lex.specs.declared.token.Token.{Token}
 use Rattle.strc_parse_tree.specs.Tree.{Declaration}
@@ -12,8 +11,6 @@ use Rattle.strc_parse_tree.specs.declared.tree.Program.{Program}
 use Rattle.strc_parse_grammar.specs.Grammar.{Parses, kinds}
 use Rattle.strc_parse.specs.Placed.{IsProgramPlaced}
 use Rattle.strc_parse.specs.Texts.{HasTokens}
-use Rattle.strc_work_meaning.specs.declared.body.Body.{Body}
-use Rattle.strc_work_meaning.specs.declared.fault.Cause.{Cause}
 use Rattle.strc_elab_graph.specs.NodeView.{GraphParts}
 use Rattle.strc_elab_graph.specs.declared.graph.Node.{Node}
 use Rattle.strc_work_rules.specs.declared.site.Site.{Site}
@@ -23,8 +20,11 @@ use Rattle.strc_elab_stream.specs.declared.stream.Stream.{Stream}
 use Rattle.strc_run_refusal.specs.declared.placed_refusal.PlacedRefusal.{PlacedRefusal}
 use Rattle.strc_run_refusal.specs.declared.refusal.Refusal.{Refusal}
 use Rattle.strc_run_refusal.specs.declared.refusal.Refusal.TheVariants as refusal
+use Rattle.strc_cli_diagnostics.specs.declared.message.MessageKind.{MessageKind}
+use Rattle.strc_cli_diagnostics.specs.declared.message.MessageKind.TheVariants as kind
 use Rattle.strc_cli_source.specs.declared.preorder.Preorder.{Preorder}
-use Rattle.strc_cli_source.specs.Messages.{IsMessageOf}
+use Rattle.strc_cli_source.specs.Headings.{heading}
+use Rattle.strc_cli_diagnostics.specs.Messages.{MessageView}
 use Rattle.strc_cli_source.specs.Preorders.{IsPreorderOf}
 use Rattle.strc_cli_source.specs.Spelling.{Marks}
 use Rattle.strc_cli_places.specs.Marked.{MarksRefusal}
@@ -32,7 +32,10 @@ use Rattle.strc_cli_places.specs.Nodes.{heading_of, node_statement}
 use Rattle.strc_cli_places.specs.Pairs.{AreApart, first_readers, first_writer}
 use Rattle.strc_cli_places.specs.Parts.{declarations_of}
 use Rattle.strc_cli_places.specs.Refused.{MarksFaultOf, body_fired}
+use Rattle.strc_cli_messages.specs.Sentences.{IsFaultSentence}
 use Rattle.strc_cli_messages.specs.Sites.{site_of}
+use Rattle.strc_sched_outcome.specs.declared.outcome.Round.{Round}
+use Rattle.strc_work_meaning.specs.declared.fault.Cause.{Cause}
 
 -- a declaration could be the main stream
 abbrev pub could_be_main : Decl → Bool
@@ -84,63 +87,68 @@ MarksSite text tokens asked program order graph site refusal.Disconnected place 
 MarksSite text tokens asked program order graph site refused place =
     MarksRefusal text tokens asked program order graph site refused place
 
+-- a message of this kind that is about no part of a text
+abbrev pub TellsOfKind : MessageKind → MessageView → Type 0
+TellsOfKind kind message = (message.kind ≡ kind) × (message.place ≡ None)
+
+-- a message about what is wrong with the program
+abbrev pub IsPlain : MessageView → Type 0
+IsPlain message = message.kind ≡ kind.Plain
+
 -- a message about the second of two nodes, of a program whose nodes are known
-pub record TellsSecond (file text : List ℕ) (tokens : List Token) (asked : Option (List ℕ))
-    (program : Option Program) (order : Preorder) (refused : Refusal) (message : List ℕ) : Type 0
-  where
-    pub pair : ℕ × ℕ
-    pub is_pair : IsPair refused order (Some pair)
-    pub told : IsMessageOf file text
-        (heading_of tokens (node_statement asked program (Some order) pair.1)) message
+pub record TellsSecond (tokens : List Token) (asked : Option (List ℕ)) (program : Option Program)
+    (order : Preorder) (refused : Refusal) (message : MessageView) : Type 0 where
+  pub pair : ℕ × ℕ
+  pub is_pair : IsPair refused order (Some pair)
+  pub place : message.place ≡ heading_of tokens (node_statement asked program (Some order) pair.1)
+  pub plain : IsPlain message
 
 -- such a message, where the two are known
-abbrev pub TellsNodes : (file text : List ℕ) → List Token → (asked : Option (List ℕ))
-    → Option Program → Option Preorder → Refusal → Option (Vec ℕ Global) → Type 0
-TellsNodes file text tokens asked program None refused None = ⊤
-TellsNodes file text tokens asked program None refused (Some message) = ⊥
-TellsNodes file text tokens asked program (Some order) refused None = IsPair refused order None
-TellsNodes file text tokens asked program (Some order) refused (Some message) =
-    TellsSecond file text tokens asked program order refused message.items
+abbrev pub TellsNodes : List Token → (asked : Option (List ℕ)) → Option Program → Option Preorder
+    → Refusal → Option MessageView → Type 0
+TellsNodes tokens asked program None refused None = ⊤
+TellsNodes tokens asked program None refused (Some message) = ⊥
+TellsNodes tokens asked program (Some order) refused None = IsPair refused order None
+TellsNodes tokens asked program (Some order) refused (Some message) =
+    TellsSecond tokens asked program order refused message
 
 -- a message about a stream's name that is declared again, at the site
-pub record TellsAgain (file text : List ℕ) (site : Site) (message : List ℕ) : Type 0 where
+pub record TellsAgain (tokens : List Token) (site : Site) (message : MessageView) : Type 0 where
   pub first : Option Span
   pub second : Span
   pub twice : site.mismatch ≡ Some (mismatch.StreamTwice first)
   pub again : site.place ≡ Some second
-  pub told : IsMessageOf file text (Some second) message
+  pub place : message.place ≡ Some (heading second tokens)
+  pub plain : IsPlain message
 
 -- a message about the part that is marked
-pub record TellsSite (file text : List ℕ) (tokens : List Token) (asked : Option (List ℕ))
+pub record TellsSite (text : List ℕ) (tokens : List Token) (asked : Option (List ℕ))
     (program : Option Program) (order : Option Preorder) (graph : Option GraphParts) (site : Site)
-    (refused : Refusal) (message : List ℕ) : Type 0 where
-  pub place : Option Span
-  pub marks : MarksSite text tokens asked program order graph site refused place
-  pub told : IsMessageOf file text place message
+    (refused : Refusal) (message : MessageView) : Type 0 where
+  pub marks : MarksSite text tokens asked program order graph site refused message.place
+  pub plain : IsPlain message
 
 -- a message about the second stream that could be the main one, where there is one
-abbrev pub TellsMains : (file text : List ℕ) → List Token → Option Decl → Option (Vec ℕ Global)
-    → Type 0
-TellsMains file text tokens None None = ⊤
-TellsMains file text tokens (Some second) (Some message) = (place : Option Span)
-    × Marks text tokens second.name place × IsMessageOf file text place message.items
-TellsMains file text tokens second found = ⊥
+abbrev pub TellsMains : (text : List ℕ) → List Token → Option Decl → Option MessageView → Type 0
+TellsMains text tokens None None = ⊤
+TellsMains text tokens (Some second) (Some message) =
+    Marks text tokens second.name message.place × IsPlain message
+TellsMains text tokens second found = ⊥
 
 -- a message about two parts that don't go together, where they are known: two streams of a name,
 -- two that could be the main one, or two nodes
-abbrev pub TellsTwo : (file text : List ℕ) → List Token → (asked : Option (List ℕ))
-    → Option Program → Option Preorder → Option GraphParts → Site → Refusal
-    → Option (Vec ℕ Global) → Type 0
-TellsTwo file text tokens asked program order graph site refusal.ManyMains found =
-    TellsMains file text tokens (second_main (declarations_of program)) found
-TellsTwo file text tokens asked program order graph site refusal.TwoInputs found =
-    TellsNodes file text tokens asked program order refusal.TwoInputs found
-TellsTwo file text tokens asked program order graph site (refusal.TapeTwice node) found =
-    TellsNodes file text tokens asked program order (refusal.TapeTwice node) found
-TellsTwo file text tokens asked program order graph site refusal.Disconnected found =
-    TellsNodes file text tokens asked program order refusal.Disconnected found
-TellsTwo file text tokens asked program order graph site refused found = IfSome found (λ message.
-    TellsSite file text tokens asked program order graph site refused message.items)
+abbrev pub TellsTwo : (text : List ℕ) → List Token → (asked : Option (List ℕ)) → Option Program
+    → Option Preorder → Option GraphParts → Site → Refusal → Option MessageView → Type 0
+TellsTwo text tokens asked program order graph site refusal.ManyMains found =
+    TellsMains text tokens (second_main (declarations_of program)) found
+TellsTwo text tokens asked program order graph site refusal.TwoInputs found =
+    TellsNodes tokens asked program order refusal.TwoInputs found
+TellsTwo text tokens asked program order graph site (refusal.TapeTwice node) found =
+    TellsNodes tokens asked program order (refusal.TapeTwice node) found
+TellsTwo text tokens asked program order graph site refusal.Disconnected found =
+    TellsNodes tokens asked program order refusal.Disconnected found
+TellsTwo text tokens asked program order graph site refused found =
+    IfSome found (TellsSite text tokens asked program order graph site refused)
 
 -- the tokens of a text; none where it has none
 abbrev pub IsTokensOf : (text : List ℕ) → List Token → Type 0
@@ -161,27 +169,31 @@ AreNodesOf (Some stream) (Some order) = IsPreorderOf stream order
 
 -- a message about a refusal of a text: about the part of it that breaks the rule, by the text's
 -- tokens and its tree, the nodes of the stream that is refused, and its graph
-pub record TellsOfText (file text : List ℕ) (asked : Option (List ℕ)) (placed : PlacedRefusal)
-    (message : List ℕ) : Type 0 where
+pub record TellsOfText (text : List ℕ) (asked : Option (List ℕ)) (placed : PlacedRefusal)
+    (message : MessageView) : Type 0 where
   pub tokens : List Token
   pub is_tokens : IsTokensOf text tokens
   pub program : Option Program
   pub is_tree : IsTreeOf tokens program
   pub order : Option Preorder
   pub are_nodes : AreNodesOf placed.stream order
-  pub tells : TellsSite file text tokens asked program order placed.graph
+  pub tells : TellsSite text tokens asked program order placed.graph
       (site_of text tokens program placed) placed.refusal message
 
--- a message about a fault in a firing of a node, of this body
-pub record TellsFault (file text : List ℕ) (tokens : List Token) (cause : Cause) (body : Body)
-    (faulting : Option Node) (message : List ℕ) : Type 0 where
-  pub place : Option Span
-  pub marks : MarksFaultOf text tokens cause body faulting place
-  pub told : IsMessageOf file text place message
+-- a message about a fault in a firing of one of these nodes, which may have a path: about the part
+-- of its body that faults, and with the words for that node, firing and round
+pub record TellsFault (text : List ℕ) (tokens : List Token) (nodes : List Node)
+    (path : Option (List ℕ)) (node firing : ℕ) (round : Round) (cause : Cause)
+    (message : MessageView) : Type 0 where
+  pub marks : MarksFaultOf text tokens cause (body_fired firing) (slice_get nodes node)
+      message.place
+  pub says : IsFaultSentence nodes path node firing round cause message.sentence
+  pub plain : IsPlain message
 
--- a message about a fault in a firing of one of these nodes, by its number, after so many others
-pub record TellsFaultOfText (file text : List ℕ) (nodes : List Node) (node firing : ℕ)
-    (cause : Cause) (message : List ℕ) : Type 0 where
+-- the same by the text's own tokens, and by some path
+pub record TellsFaultOfText (text : List ℕ) (nodes : List Node) (node firing : ℕ) (round : Round)
+    (cause : Cause) (message : MessageView) : Type 0 where
   pub tokens : List Token
   pub is_tokens : IsTokensOf text tokens
-  pub tells : TellsFault file text tokens cause (body_fired firing) (slice_get nodes node) message
+  pub path : Option (List ℕ)
+  pub tells : TellsFault text tokens nodes path node firing round cause message

@@ -1,24 +1,31 @@
 // What a person reads of a run that ends early, or that isn't run.
 
-ghost use Rattle.std.specs.Prelude.{◌≡◌, [], codes, IfOk, IfSome, slice_get};
+ghost use Rattle.std.specs.Prelude.{◌≡◌, IfOk, IfSome, OnOk, slice_get};
+ghost use Rattle.std.specs.Fmt.{signed_decimal};
+ghost use Rattle.std.specs.Option.{option_map};
 ghost use Rattle.strc_cli_places.specs.Nodes.{MarksName};
 ghost use Rattle.strc_cli_places.specs.Refused as spec;
-ghost use Rattle.strc_cli_places.specs.Refused.{IsOperatorOf, MarksFaultOf};
-ghost use Rattle.strc_cli_source.specs.Messages.{IsMessage};
+ghost use Rattle.strc_cli_places.specs.Refused.{MarksFaultOf};
+ghost use Rattle.strc_cli_diagnostics.specs.Messages.{with_more};
+ghost use Rattle.strc_cli_diagnostics.specs.declared.message.MessageKind.TheVariants as kind;
+ghost use Rattle.strc_cli_source.specs.NodeWords.{Adds};
+ghost use Rattle.strc_cli_messages.specs.Sentences as sentences;
 ghost use Rattle.strc_cli_messages.specs.Told as told;
 
 use crate::refusal::tokens_of;
+use crate::sentences::start_fault_sentence;
 use std::alloc::Global;
-use strc_cli_source::message::Message;
-use strc_cli_source::nodes::push_node;
-use strc_cli_source::operators::{can_fault, faulting_part, with_operand};
+use strc_cli_diagnostics::message::{Message, MessageKind};
+use strc_cli_places::trapped::trapped_part;
+use strc_cli_source::nodes::{NamedGraph, push_node};
+use strc_cli_source::operators::faulting_part;
 use strc_cli_source::source::Source;
 use strc_cli_source::spelling::spelled_or_first;
 use strc_cli_source::tokens::keyword_before;
 use strc_cli_statements::bodies::faulting_statement;
 use strc_elab_graph::graph::{Graph, Node};
 use strc_elab_graph::instance::Instance;
-use strc_lex::token::{Keyword, Token};
+use strc_lex::token::Keyword;
 use strc_lex_names::memory::NoMemory;
 use strc_lex_names::place::Span;
 use strc_parse_tree::tree::{FilterTree, Member, Stmt};
@@ -38,57 +45,60 @@ pub struct FaultSite {
     pub cause: LocatedCause,
 }
 
-/// What a person reads of a fault in the run of a flat graph: the place in the file of the
-/// statement or the filter, and one sentence with the node's name, its firing and the round.
+/// What a person reads of a fault in the run of a flat graph: the place of the statement or the
+/// filter, and one sentence with the node's name, its firing and the round.
 ///
-/// `main` is the main stream that was asked for.
+/// `main` is the main stream that was asked for, and `paths` are those of the nodes, as far as they
+/// are known.
 pub fn fault_message<'a>(
     alloc: Global,
-    file: &'a str,
     text: &'a [u8],
     main: Option<&'a str>,
     graph: &Graph,
+    paths: &[Vec<u8>],
     fault: &FaultSite,
-) -> Result<Vec<u8>, NoMemory>
-    ensures message { IfOk result (λ message. IsMessage file.now text.now message.items) }
+) -> Result<Message, NoMemory>
     // It is about the part of the body that faults, where only one can, or about its filter.
-    ensures told { IfOk result (λ message. told.TellsFaultOfText file.now text.now graph.now.nodes
-        fault.now.node fault.now.firing fault.now.cause message.items) }
+    // And it says which node, which firing and which round.
+    ensures { IfOk result (told.TellsFaultOfText text.now graph.now.nodes fault.now.node
+        fault.now.firing fault.now.round fault.now.cause) }
 {
     let tokens = tokens_of(alloc, text)?;
     let source = Source {
-        file,
         text,
         tokens: &tokens,
         main,
     };
-    write_fault(alloc, source, graph, fault)
+    write_fault(alloc, source, graph, paths, fault)
 }
 
 fn write_fault(
     alloc: Global,
     source: Source<'_>,
     graph: &Graph,
+    paths: &[Vec<u8>],
     fault: &FaultSite,
-) -> Result<Vec<u8>, NoMemory>
-    ensures { IfOk result (λ message. told.TellsFault source.entry.file.now
-        source.entry.text.now source.entry.tokens.now fault.now.cause
-        (spec.body_fired fault.now.firing) (slice_get graph.now.nodes fault.now.node)
-        message.items) }
+) -> Result<Message, NoMemory>
+    ensures { IfOk result (told.TellsFault source.entry.text.now source.entry.tokens.now
+        graph.now.nodes (option_map (λ p. p.items) (slice_get paths.now fault.now.node))
+        fault.now.node fault.now.firing fault.now.round fault.now.cause) }
 {
     let place = place_of_fault(alloc, source, graph, fault)?;
     let mut message = Message::new(alloc);
-    push_node(&mut message, Some(graph), fault.node as usize)?;
+    push_node(
+        &mut message,
+        Some(NamedGraph { graph, paths }),
+        fault.node as usize,
+    )?;
     push_cause(&mut message, &fault.cause)?;
     message.add(b" in its firing ")?;
     message.number(fault.firing)?;
     push_round(&mut message, fault.round)?;
-    source.excerpt(&mut message, place)?;
-    source.message(alloc, place, message)
+    Ok(message.about(MessageKind::Plain, place))
 }
 
-/// The operator, the array or the look that faulted, where that is known, or else the statement;
-/// else the filter.
+/// The operator, the array, the look, the loop or the call that faulted, where that is known, or
+/// else the statement; else the filter.
 fn place_of_fault(
     alloc: Global,
     source: Source<'_>,
@@ -102,38 +112,14 @@ fn place_of_fault(
     let Some(Node::Filter(instance)) = graph.nodes().get(fault.node as usize) else {
         return Ok(None);
     };
-    if let Some(part) = operator_of(source.tokens, &fault.cause) {
+    let cause = fault.cause.cause();
+    if let Some(part) = trapped_part(source, &fault.cause) {
         return Ok(Some(part));
     }
     let body = body_fired(fault.firing);
-    let cause = fault.cause.cause();
     match faulting_statement(alloc, &instance.code, body, cause)? {
         Some(statement) => Ok(Some(faulting_part(source, statement, cause))),
         None => Ok(place_of_filter(source, instance)),
-    }
-}
-
-/// The operator that faulted, where the cause says at which byte it begins, or its array's name.
-fn operator_of(tokens: &[Token], cause: &LocatedCause) -> Option<Span>
-    ensures { IfSome result (IsOperatorOf tokens.now cause.now) }
-{
-    let byte = cause.byte()?;
-    let first = tokens.iter().position(|token| token.span.start == byte)?;
-    match operator_at(tokens, first, cause.cause()) {
-        Some(part) => Some(part),
-        None => operator_at(tokens, first.checked_add(1)?, cause.cause()),
-    }
-}
-
-/// The place of the token of this number, where it is an operator that can fault so.
-fn operator_at(tokens: &[Token], number: usize, cause: Cause) -> Option<Span>
-    ensures { IfSome result (IsOperatorOf tokens.now cause) }
-{
-    let token = tokens.get(number)?;
-    if can_fault(&token.kind, cause) {
-        with_operand(tokens, number)
-    } else {
-        None
     }
 }
 
@@ -197,18 +183,32 @@ fn block_place(block: &[Stmt]) -> Option<Span> {
 }
 
 /// What a firing did.
-fn push_cause(message: &mut Message, cause: &LocatedCause) -> Result<(), NoMemory> {
-    match cause.cause() {
+fn push_cause(message: &mut Message, cause: &LocatedCause) -> Result<(), NoMemory>
+    ensures { OnOk result (Adds (sentences.AreCauseWords cause.now) message.old message.new) }
+{
+    push_trapped(message, cause.cause(), cause.trapped())?;
+    Ok(())
+}
+
+/// What it did, with what is known of what trapped.
+fn push_trapped(message: &mut Message, cause: Cause, trapped: Trapped) -> Result<(), NoMemory>
+    ensures { OnOk result (message.new
+        ≡ with_more message.old (sentences.cause_words cause trapped)) }
+{
+    match cause {
         Cause::DivZero => Ok(message.add(b" divides by zero")?),
-        Cause::Index => push_index(message, cause.trapped()),
-        Cause::PeekRange => push_look(message, cause.trapped()),
+        Cause::Index => Ok(push_index(message, trapped)?),
+        Cause::PeekRange => Ok(push_look(message, trapped)?),
         Cause::Turns => Ok(message.add(b" makes more than 1,000,000 turns of loops and calls")?),
         Cause::Calls => Ok(message.add(b" has more than 64 calls running at once")?),
     }
 }
 
 /// Which index was outside of its array, where that was noted.
-fn push_index(message: &mut Message, trapped: Trapped) -> Result<(), NoMemory> {
+fn push_index(message: &mut Message, trapped: Trapped) -> Result<(), NoMemory>
+    ensures { OnOk result (message.new
+        ≡ with_more message.old (sentences.index_words trapped)) }
+{
     if trapped.count == 0 {
         return Ok(message.add(b" uses an index outside of its array")?);
     }
@@ -219,22 +219,43 @@ fn push_index(message: &mut Message, trapped: Trapped) -> Result<(), NoMemory> {
 }
 
 /// Which item wasn't in the window, where that was noted.
-fn push_look(message: &mut Message, trapped: Trapped) -> Result<(), NoMemory> {
-    let Some(last) = trapped.count.checked_sub(1) else {
+fn push_look(message: &mut Message, trapped: Trapped) -> Result<(), NoMemory>
+    ensures { OnOk result (message.new
+        ≡ with_more message.old (sentences.look_words trapped)) }
+{
+    if trapped.count == 0 {
         return Ok(message.add(b" looks at an item outside of its window")?);
-    };
+    }
     message.add(b" looks at peek(")?;
     push_signed(message, trapped.index)?;
     if trapped.index < 0 {
         return Ok(message.add(b"), before its window,")?);
     }
     message.add(b"), past peek(")?;
-    message.number(u64::from(last))?;
+    message.number(u64::from(trapped.count - 1))?;
     Ok(message.add(b"), the last of its window,")?)
 }
 
+/// What faults while the streams are put together: which index, where that was noted.
+pub(crate) fn push_start_fault(
+    message: &mut Message,
+    cause: Cause,
+    trapped: Trapped,
+) -> Result<(), NoMemory> {
+    if cause != Cause::Index || trapped.count == 0 {
+        return Ok(message.add(start_fault_sentence(cause))?);
+    }
+    message.add(b"index ")?;
+    push_signed(message, trapped.index)?;
+    message.add(b" of an array of ")?;
+    message.number(u64::from(trapped.count))?;
+    Ok(message.add(b" is used while the streams are put together")?)
+}
+
 /// A number in decimal, with its sign.
-fn push_signed(message: &mut Message, number: i32) -> Result<(), NoMemory> {
+fn push_signed(message: &mut Message, number: i32) -> Result<(), NoMemory>
+    ensures { OnOk result (message.new ≡ with_more message.old (signed_decimal number)) }
+{
     if number < 0 {
         message.add(b"-")?;
     }
@@ -242,7 +263,10 @@ fn push_signed(message: &mut Message, number: i32) -> Result<(), NoMemory> {
 }
 
 /// When it was.
-fn push_round(message: &mut Message, round: Round) -> Result<(), NoMemory> {
+fn push_round(message: &mut Message, round: Round) -> Result<(), NoMemory>
+    ensures { OnOk result (message.new
+        ≡ with_more message.old (sentences.round_words round)) }
+{
     match round {
         Round::Startup => Ok(message.add(b", before the first round")?),
         Round::At(number) => {
@@ -254,13 +278,13 @@ fn push_round(message: &mut Message, round: Round) -> Result<(), NoMemory> {
 }
 
 /// What a person reads where an accepted text isn't run.
-pub fn not_run_message(alloc: Global, file: &str, refusal: RunRefusal) -> Result<Vec<u8>, NoMemory>
-    ensures { IfOk result (λ message. IsMessage file.now [] message.items) }
+pub fn not_run_message(alloc: Global, refusal: RunRefusal) -> Result<Message, NoMemory>
+    ensures { IfOk result (told.TellsOfKind kind.Plain) }
 {
     let mut message = Message::new(alloc);
     match refusal {
         RunRefusal::InputShort { need, got } => {
-            message.add(b"start-up and the rounds that are asked for read ")?;
+            message.add(b"start-up, and such rounds as --rounds asks for, read ")?;
             message.number(need)?;
             message.add(b" numbers, and the input has ")?;
             message.number(got)?;
@@ -272,28 +296,28 @@ pub fn not_run_message(alloc: Global, file: &str, refusal: RunRefusal) -> Result
         RunRefusal::NoMemory => message.add(b"out of memory")?,
         RunRefusal::NoWorker => message.add(b"no thread could be started")?,
     }
-    Ok(message.end(alloc, file, b"", None)?)
+    Ok(message.about(MessageKind::Plain, None))
 }
 
 /// What a person reads of a word of the input that isn't a number; words count from 0.
-pub fn bad_input_message(alloc: Global, word: u64) -> Result<Vec<u8>, NoMemory>
-    ensures { IfOk result (λ message. IsMessage (codes "standard input") [] message.items) }
+pub fn bad_input_message(alloc: Global, word: u64) -> Result<Message, NoMemory>
+    ensures { IfOk result (told.TellsOfKind kind.Input) }
 {
     let mut message = Message::new(alloc);
     message.add(b"word ")?;
     message.number(word)?;
     message.add(b" (the first one is word 0) is no number from -2147483648 to 2147483647")?;
-    Ok(message.end(alloc, "standard input", b"", None)?)
+    Ok(message.about(MessageKind::Input, None))
 }
 
 /// What a person reads where a program's C would have so many items, too many.
-pub fn array_limit_message(alloc: Global, file: &str, items: u64) -> Result<Vec<u8>, NoMemory>
-    ensures { IfOk result (λ message. IsMessage file.now [] message.items) }
+pub fn array_limit_message(alloc: Global, items: u64) -> Result<Message, NoMemory>
+    ensures { IfOk result (told.TellsOfKind kind.Plain) }
 {
     let mut message = Message::new(alloc);
     message.add(b"its C would have ")?;
     message.number(items)?;
     message.add(b" items, more than 268435456: a round moves, or filters hold, too many")?;
-    let told = message.end(alloc, file, b"", None)?;
+    let told = message.about(MessageKind::Plain, None);
     Ok(told)
 }

@@ -1,9 +1,9 @@
 // Hints on how a refusal can be mended.
 
-use crate::marked_tokens::{block_has, compares_bits, looks_back};
+use crate::marked_tokens::{block_has, compares_bits, compares_twice, is_in, looks_back};
 use crate::mismatches::mismatch_hint;
+use strc_cli_diagnostics::message::Message;
 use strc_cli_places::known::Known;
-use strc_cli_source::message::Message;
 use strc_cli_source::nearest::nearest_name;
 use strc_cli_source::source::Source;
 use strc_cli_source::spelling::begins;
@@ -11,9 +11,11 @@ use strc_cli_syntax::foreign_words::{DELAYS, push_foreign_hint};
 use strc_cli_syntax::hint_words::push_words;
 use strc_cli_syntax::number_hints::push_number_hint;
 use strc_cli_syntax::syntax_hints::push_syntax_hint;
-use strc_lex::token::Keyword;
+use strc_lex::token::{Keyword, TokenKind};
 use strc_lex_names::memory::NoMemory;
+use strc_lex_names::name::Name;
 use strc_lex_names::place::Span;
+use strc_parse_tree::tree::Decl;
 use strc_run_refusal::refusal::Refusal;
 use strc_work_meaning::types::ValueType;
 use strc_work_rules::site::{Mismatch, Part, Site};
@@ -28,7 +30,9 @@ pub(crate) fn push_hint(
 ) -> Result<(), NoMemory> {
     match refusal {
         Refusal::UnknownName { name } => push_nearest(message, known, name.as_bytes()),
-        Refusal::Lex { at } => push_number_hint(message, known.source.text, *at),
+        Refusal::NoMain => push_main_hint(message, known),
+        Refusal::Lex { at } => push_lexical_hint(message, known.source.text, *at),
+        Refusal::BadArguments { .. } => push_parameters(message, known, place),
         Refusal::Parse { token } => push_syntax_hint(message, known.source, *token),
         Refusal::TypeMismatch { .. } => match site.mismatch {
             Some(mismatch) => {
@@ -45,7 +49,100 @@ pub(crate) fn push_hint(
                 b"there is no look back: a field keeps what was popped",
             )
         }
+        Refusal::RateUnknown { .. } if is_loop(known.source, place) => {
+            push_words(
+                message,
+                b"it goes up to a number or a parameter by `<` or `<=`, or down by `>` or `>=`",
+            )
+        }
         refusal => push_words(message, hint_of(refusal)),
+    }
+}
+
+/// Whether a place is that of a loop.
+fn is_loop(source: Source<'_>, place: Option<Span>) -> bool {
+    match place {
+        Some(place) => begins(source, place, b"for") || begins(source, place, b"while"),
+        None => false,
+    }
+}
+
+/// How the main stream can be mended, or its name.
+fn push_main_hint(message: &mut Message, known: Known<'_>) -> Result<(), NoMemory> {
+    match known.source.main {
+        Some(name) if known.declaration_named(name.as_bytes()).is_none() => {
+            push_nearest(message, known, name.as_bytes())
+        }
+        _ => push_words(
+            message,
+            b"the main stream is one like `void->void pipeline Main { .. }`",
+        ),
+    }
+}
+
+/// A hint where no token begins.
+fn push_lexical_hint(message: &mut Message, text: &[u8], at: usize) -> Result<(), NoMemory> {
+    let before = &text[..at.min(text.len())];
+    match text.get(at) {
+        Some(b'"') if before.ends_with(b"printf(") => {
+            let _is_foreign = push_foreign_hint(message, b"printf")?;
+            Ok(())
+        }
+        Some(b'#') if before.is_empty() || before.ends_with(b"\n") => {
+            push_words(message, b"a parameter stands for a constant")
+        }
+        _ => push_number_hint(message, text, at),
+    }
+}
+
+/// The parameters of the stream that a part of a text adds.
+fn push_parameters(
+    message: &mut Message,
+    known: Known<'_>,
+    place: Option<Span>,
+) -> Result<(), NoMemory> {
+    let Some(declaration) = added_in(known, place) else {
+        return Ok(());
+    };
+    let parameters = parameters_of(declaration);
+    message.hint()?;
+    message.quoted(declaration.name.as_bytes())?;
+    message.add(b" has ")?;
+    message.number(parameters.len() as u64)?;
+    message.add(match parameters.len() {
+        1 => b" parameter".as_slice(),
+        _ => b" parameters".as_slice(),
+    })?;
+    for (number, parameter) in parameters.iter().enumerate() {
+        message.add(if number == 0 {
+            b": ".as_slice()
+        } else {
+            b", ".as_slice()
+        })?;
+        message.quoted(parameter.as_bytes())?;
+    }
+    Ok(())
+}
+
+/// The first declared stream that is named in a part of a text.
+fn added_in<'a>(known: Known<'a>, place: Option<Span>) -> Option<&'a Decl> {
+    let place = place?;
+    known
+        .source
+        .tokens
+        .iter()
+        .filter(|it| is_in(it, place))
+        .find_map(|it| match &it.kind {
+            TokenKind::Name(name) => known.declaration_named(name.as_bytes()),
+            _ => None,
+        })
+}
+
+/// The names of a stream's parameters.
+fn parameters_of(declaration: &Decl) -> &[Name] {
+    match &declaration.parameters {
+        Some(parameters) => parameters,
+        None => &[],
     }
 }
 
@@ -56,6 +153,9 @@ fn mismatch_hint_at(source: Source<'_>, mismatch: Mismatch, place: Option<Span>)
     };
     if is_of_both_kinds(mismatch) && compares_bits(source, place) {
         return b"a comparison goes before `&`, `^` and `|`: write `(x & 1) == 0`";
+    }
+    if is_of_both_kinds(mismatch) && compares_twice(source, place) {
+        return b"comparisons are joined by `&&`: write `0 < x && x < 3` for `0 < x < 3`";
     }
     match mismatch {
         Mismatch::Missing(_, Part::Add) if block_has(source, place.start, Keyword::Add) => {
@@ -100,7 +200,6 @@ fn push_nearest(message: &mut Message, known: Known<'_>, name: &[u8]) -> Result<
 /// How a refusal can be mended; nothing where the sentence says enough.
 fn hint_of(refusal: &Refusal) -> &'static [u8] {
     match refusal {
-        Refusal::NoMain => b"the main stream is one like `void->void pipeline Main { .. }`",
         Refusal::BadWeights { .. } => {
             b"one weight for each child, from 0 to 65,536, and not all of them 0"
         }

@@ -1,8 +1,8 @@
-// Takes a program's text, the name of its file, and why it is refused or where a firing faulted.
-// Gives what a person reads of it: the place in the file, one sentence, the source line with a
-// mark, and where it helps a hint.
-// The theorems to rely on: `refusal_message`, `fault_message`: a message begins with its file and
-// the place of the part that it is about, by the text's own tree, stream and graph.
+// Takes a program's text, and why it is refused or where a firing faulted.
+// Gives what a person reads of it: the part of the text that it is about, one sentence, and where
+// it helps a hint.
+// The theorems to rely on: `refusal_message`, `fault_message`: a message is about the part that
+// breaks the rule, or that faults, by the text's own tree, stream and graph.
 // Stands on strc_cli_places, which finds the place, on strc_cli_source, which builds messages and
 // tells of the nodes of a stream, on strc_run_refusal, whose refusals and rounds it tells of, on
 // strc_elab_statements, which says what can be the main stream, and on strc_work_rules, whose rules

@@ -14,6 +14,26 @@ pub(crate) fn compares_bits(source: Source<'_>, place: Span) -> bool {
             .any(|it| is_in(it, place) && is_comparison(it))
 }
 
+/// Whether a part compares what a comparison gives, as `0 < x < 3` does: with no operator between
+/// two of them that joins truth values.
+pub(crate) fn compares_twice(source: Source<'_>, place: Span) -> bool {
+    let mut has_compared = false;
+    for token in source.tokens.iter().filter(|it| is_in(it, place)) {
+        if is_comparison(token) {
+            if has_compared {
+                return true;
+            }
+            has_compared = true;
+        } else if is_mark(token, Punctuation::AndAnd)
+            || is_mark(token, Punctuation::OrOr)
+            || is_mark(token, Punctuation::Semicolon)
+        {
+            has_compared = false;
+        }
+    }
+    false
+}
+
 /// Whether a peek in a part is at a place below 0.
 pub(crate) fn looks_back(source: Source<'_>, place: Option<Span>) -> bool {
     let Some(place) = place else {
@@ -57,7 +77,8 @@ pub(crate) fn block_has(source: Source<'_>, from: usize, keyword: Keyword) -> bo
     false
 }
 
-fn is_in(token: &Token, place: Span) -> bool {
+/// Whether a token is in a part.
+pub(crate) fn is_in(token: &Token, place: Span) -> bool {
     place.start <= token.span.start && token.span.end <= place.end
 }
 

@@ -2,9 +2,9 @@
 
 use crate::marked_tokens::block_has;
 use std::alloc::AllocError;
+use strc_cli_diagnostics::message::Message;
 use strc_cli_places::known::Known;
 use strc_cli_places::places::{kind_keyword, part_keyword};
-use strc_cli_source::message::Message;
 use strc_lex::token::Keyword;
 use strc_lex_names::place::Span;
 use strc_parse_tree::tree::CompositeKind;

@@ -7,10 +7,10 @@ ghost use Rattle.strc_cli_places.specs.Parts.{declarations_of};
 ghost use Rattle.strc_cli_messages.specs.Told as told;
 
 use std::alloc::Global;
+use strc_cli_diagnostics::message::{Message, MessageKind};
 use strc_cli_places::known::Known;
 use strc_cli_places::origins::statement_of;
 use strc_cli_places::pairs::pair_of;
-use strc_cli_source::message::Message;
 use strc_cli_source::preorder::Preorder;
 use strc_cli_syntax::place_words::push_place;
 use strc_elab_statements::main_stream::can_be_main;
@@ -26,8 +26,8 @@ pub(crate) fn pair_message(
     known: Known<'_>,
     refusal: &Refusal,
     site: Site,
-) -> Result<Option<Vec<u8>>, NoMemory>
-    ensures { IfOk result (told.TellsTwo known.entry.source.file.now known.entry.source.text.now
+) -> Result<Option<Message>, NoMemory>
+    ensures { IfOk result (told.TellsTwo known.entry.source.text.now
         known.entry.source.tokens.now (option_map (λ m. m.now) known.entry.source.main)
         (option_map (λ p. p.now) known.entry.program) (option_map (λ n. n.now) known.entry.nodes)
         (option_map (λ g. g.now) known.entry.graph) site refusal.now) }
@@ -43,9 +43,9 @@ pub(crate) fn pair_message(
 }
 
 /// Two declarations that could be the main stream.
-fn two_mains(known: Known<'_>) -> Result<Option<Vec<u8>>, NoMemory>
-    ensures { IfOk result (told.TellsMains known.entry.source.file.now
-        known.entry.source.text.now known.entry.source.tokens.now
+fn two_mains(known: Known<'_>) -> Result<Option<Message>, NoMemory>
+    ensures { IfOk result (told.TellsMains known.entry.source.text.now
+        known.entry.source.tokens.now
         (told.second_main (declarations_of (option_map (λ p. p.now) known.entry.program)))) }
 {
     let source = known.source;
@@ -58,10 +58,9 @@ fn two_mains(known: Known<'_>) -> Result<Option<Vec<u8>>, NoMemory>
     message.add(b" could be the main stream, and so could ")?;
     message.quoted(first.name.as_bytes())?;
     push_place(&mut message, source.text, known.place_of_name(first))?;
-    source.excerpt(&mut message, place)?;
     message.hint()?;
     message.add(b"name the one that is to run with --main NAME")?;
-    Ok(Some(source.message(known.alloc, place, message)?))
+    Ok(Some(message.about(MessageKind::Plain, place)))
 }
 
 /// The first two declarations that could be the main stream.
@@ -89,26 +88,25 @@ fn first_main(declarations: &[Decl]) -> Option<usize>
 }
 
 /// A declaration, and an earlier one of its name.
-fn two_of_a_name(known: Known<'_>, site: Site) -> Result<Option<Vec<u8>>, NoMemory>
-    ensures { IfOk result (λ found. IfSome found (λ message. told.TellsAgain
-        known.entry.source.file.now known.entry.source.text.now site message.items)) }
+fn two_of_a_name(known: Known<'_>, site: Site) -> Result<Option<Message>, NoMemory>
+    ensures { IfOk result (λ found. IfSome found
+        (told.TellsAgain known.entry.source.tokens.now site)) }
 {
     let (Some(Mismatch::StreamTwice(first)), Some(second)) = (site.mismatch, site.place) else {
         return Ok(None);
     };
     let source = known.source;
+    let place = Some(source.heading(second));
     let mut message = Message::new(known.alloc);
     message.quoted(source.bytes(second))?;
     message.add(b" is declared twice: here, and before it")?;
     push_place(&mut message, source.text, first)?;
-    source.excerpt(&mut message, Some(second))?;
-    Ok(Some(source.message(known.alloc, Some(second), message)?))
+    Ok(Some(message.about(MessageKind::Plain, place)))
 }
 
 /// Two nodes.
-fn two_nodes(known: Known<'_>, refusal: &Refusal) -> Result<Option<Vec<u8>>, NoMemory>
-    ensures { IfOk result (told.TellsNodes known.entry.source.file.now
-        known.entry.source.text.now known.entry.source.tokens.now
+fn two_nodes(known: Known<'_>, refusal: &Refusal) -> Result<Option<Message>, NoMemory>
+    ensures { IfOk result (told.TellsNodes known.entry.source.tokens.now
         (option_map (λ m. m.now) known.entry.source.main)
         (option_map (λ p. p.now) known.entry.program) (option_map (λ n. n.now) known.entry.nodes)
         refusal.now) }
@@ -122,14 +120,13 @@ fn two_nodes(known: Known<'_>, refusal: &Refusal) -> Result<Option<Vec<u8>>, NoM
     };
     let place = statement_of(known, second);
     let mut message = Message::new(alloc);
-    order.push_name(&mut message, second)?;
+    order.push_name(&mut message, known.paths, second)?;
     message.add(joining_words(refusal))?;
-    order.push_name(&mut message, first)?;
+    order.push_name(&mut message, known.paths, first)?;
     push_place(&mut message, source.text, statement_of(known, first))?;
-    source.excerpt(&mut message, place)?;
     message.hint()?;
     message.add(pair_hint(refusal))?;
-    Ok(Some(source.message(alloc, place, message)?))
+    Ok(Some(message.about(MessageKind::Plain, place)))
 }
 
 /// The first two nodes that don't go together.

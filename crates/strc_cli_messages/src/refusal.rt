@@ -2,9 +2,9 @@
 
 ghost use Rattle.std.specs.Prelude.{IfOk};
 ghost use Rattle.std.specs.Option.{option_map};
-ghost use Rattle.strc_cli_source.specs.Messages.{IsMessage};
 ghost use Rattle.strc_cli_messages.specs.Told as told;
 
+use crate::fault::push_start_fault;
 use crate::hints::push_hint;
 use crate::mismatches::push_mismatch;
 use crate::pairs::pair_message;
@@ -13,15 +13,18 @@ use crate::site::site_of;
 use std::alloc::Global;
 use strc_cli_counts::large::large_channel;
 use strc_cli_counts::unbalanced::unbalanced_items;
+use strc_cli_diagnostics::message::{Message, MessageKind};
 use strc_cli_places::known::Known;
 use strc_cli_places::places::{code_of, place_of_refusal};
 use strc_cli_places::rate_places::{Moved, moved_of, rate_keyword};
-use strc_cli_source::message::Message;
 use strc_cli_source::nodes::{push_channel, push_node};
 use strc_cli_source::preorder::{Preorder, preorder_of};
 use strc_cli_source::source::Source;
 use strc_cli_source::stuck::push_stuck_loop;
 use strc_cli_syntax::syntax::push_syntax;
+use strc_elab_paths::label::name_of;
+use strc_elab_paths::paths::paths_of;
+use strc_elab_statements::within::Within;
 use strc_elab_stream::stream::Stream;
 use strc_lex::error::LexError;
 use strc_lex::lexer::lex;
@@ -32,30 +35,28 @@ use strc_parse::{ParseError, parse};
 use strc_parse_tree::tree::Program;
 use strc_run_refusal::placed_refusal::PlacedRefusal;
 use strc_run_refusal::refusal::Refusal;
-use strc_work_rules::site::Site;
+use strc_work_rules::site::{Mismatch, Site};
 
-/// What a person reads of a text's refusal: the place in the file, one sentence, the source line
-/// with a mark under the place, and where it helps a hint; a line feed ends the message.
+/// What a person reads of a text's refusal: the part of the text that it is about, one sentence,
+/// and where it helps a hint.
 ///
 /// `main` is the main stream that was asked for.
 pub fn refusal_message<'a>(
     alloc: Global,
-    file: &'a str,
     text: &'a [u8],
     main: Option<&'a str>,
     placed: &'a PlacedRefusal,
-) -> Result<Vec<u8>, NoMemory>
-    ensures message { IfOk result (λ message. IsMessage file.now text.now message.items) }
+) -> Result<Message, NoMemory>
     // It is about the part of the text that breaks the rule: of the text's tree, of the nodes of
     // the refused stream, and of the refused graph.
-    ensures told { IfOk result (λ message. told.TellsOfText file.now text.now
-        (option_map (λ m. m.now) main.entry) placed.now message.items) }
+    ensures { IfOk result (told.TellsOfText text.now (option_map (λ m. m.now) main.entry)
+        placed.now) }
 {
     let tokens = tokens_of(alloc, text)?;
     let program = program_of(alloc, &tokens)?;
     let nodes = nodes_of(alloc, &placed.stream)?;
+    let paths = paths_in(alloc, &placed.stream)?;
     let source = Source {
-        file,
         text,
         tokens: &tokens,
         main,
@@ -66,8 +67,14 @@ pub fn refusal_message<'a>(
         program: program.as_ref(),
         nodes: nodes.as_ref(),
         graph: placed.graph.as_ref(),
+        paths: &paths,
     };
-    write_at(known, &placed.refusal, site_of(known, placed))
+    write_at(
+        known,
+        &placed.refusal,
+        &placed.within,
+        site_of(known, placed),
+    )
 }
 
 /// The text's tokens; none where it has none.
@@ -102,14 +109,26 @@ fn nodes_of(alloc: Global, stream: &Option<Stream>) -> Result<Option<Preorder>, 
     }
 }
 
+/// The paths of these nodes.
+fn paths_in(alloc: Global, stream: &Option<Stream>) -> Result<Vec<Vec<u8>>, NoMemory> {
+    match stream {
+        Some(stream) => Ok(paths_of(alloc, stream)?),
+        None => Ok(Vec::new(alloc)),
+    }
+}
+
 /// The message of a refusal whose rule is broken at this site.
 #[tactic(auto, using(crate::proofs::Telling::two_told, crate::proofs::Telling::told_alone))]
-fn write_at(known: Known<'_>, refusal: &Refusal, site: Site) -> Result<Vec<u8>, NoMemory>
-    ensures { IfOk result (λ message. told.TellsSite known.entry.source.file.now
-        known.entry.source.text.now known.entry.source.tokens.now
-        (option_map (λ m. m.now) known.entry.source.main)
+fn write_at(
+    known: Known<'_>,
+    refusal: &Refusal,
+    within: &Within,
+    site: Site,
+) -> Result<Message, NoMemory>
+    ensures { IfOk result (told.TellsSite known.entry.source.text.now
+        known.entry.source.tokens.now (option_map (λ m. m.now) known.entry.source.main)
         (option_map (λ p. p.now) known.entry.program) (option_map (λ n. n.now) known.entry.nodes)
-        (option_map (λ g. g.now) known.entry.graph) site refusal.now message.items) }
+        (option_map (λ g. g.now) known.entry.graph) site refusal.now) }
 {
     if let Some(message) = pair_message(known, refusal, site)? {
         return Ok(message);
@@ -117,9 +136,11 @@ fn write_at(known: Known<'_>, refusal: &Refusal, site: Site) -> Result<Vec<u8>, 
     let place = place_of_refusal(known, refusal, site)?;
     let mut message = Message::new(known.alloc);
     push_sentence(&mut message, known, refusal, site, place)?;
-    known.source.excerpt(&mut message, place)?;
+    if can_depend_on_arguments(refusal, site) {
+        push_within(known.alloc, &mut message, within)?;
+    }
     push_hint(&mut message, known, refusal, site, place)?;
-    known.source.message(known.alloc, place, message)
+    Ok(message.about(MessageKind::Plain, place))
 }
 
 /// The sentence, about this place.
@@ -133,6 +154,7 @@ fn push_sentence(
     let source = known.source;
     match refusal {
         Refusal::Parse { token } => push_syntax(known.alloc, message, source, *token),
+        Refusal::NoMain => Ok(message.add(no_main(known))?),
         Refusal::UnknownName { name } => {
             message.quoted(name.as_bytes())?;
             Ok(message.add(b" isn't declared here")?)
@@ -142,28 +164,63 @@ fn push_sentence(
             None => Ok(message.add(plain_sentence(source, refusal))?),
         },
         Refusal::RateMismatch { node, .. } => {
-            push_node(message, known.graph, *node)?;
+            push_node(message, known.named_graph(), *node)?;
             push_rates(message, known, *node, refusal)
         }
         Refusal::RateLimit { node } => {
-            push_node(message, known.graph, *node)?;
+            push_node(message, known.named_graph(), *node)?;
             push_limit(message, known, *node, refusal)
         }
         Refusal::RateUnknown { node } | Refusal::PeekOutside { node } => {
-            push_node(message, known.graph, *node)?;
+            push_node(message, known.named_graph(), *node)?;
             Ok(message.add(plain_sentence(source, refusal))?)
         }
+        Refusal::ConstFault { cause } => push_start_fault(message, *cause, site.trapped),
         Refusal::Inconsistent { channel } => push_unbalanced(message, known, *channel),
         Refusal::BufferLimit { channel } => {
-            push_channel(message, known.graph, *channel)?;
+            push_channel(message, known.named_graph(), *channel)?;
             Ok(message.add(plain_sentence(source, refusal))?)
         }
         Refusal::CountsTooLarge => push_large(message, known),
         Refusal::Deadlock { .. } => {
             message.add(plain_sentence(source, refusal))?;
-            Ok(push_stuck_loop(known.alloc, message, known.graph)?)
+            Ok(push_stuck_loop(known.alloc, message, known.named_graph())?)
         }
         _ => Ok(message.add(plain_sentence(source, refusal))?),
+    }
+}
+
+/// Whether a rule of elaboration may be broken by one instance of a stream and kept by another.
+fn can_depend_on_arguments(refusal: &Refusal, site: Site) -> bool {
+    match refusal {
+        Refusal::ConstFault { .. }
+        | Refusal::BadWeights { .. }
+        | Refusal::DepthLimit
+        | Refusal::NodeLimit => true,
+        Refusal::TypeMismatch { .. } => matches!(site.mismatch, Some(Mismatch::Missing(..))),
+        _ => false,
+    }
+}
+
+/// The stream that breaks a rule of elaboration, where it has parameters, with their values.
+fn push_within(alloc: Global, message: &mut Message, within: &Within) -> Result<(), NoMemory> {
+    match within.stream() {
+        Some(added) if !added.arguments.is_empty() => {
+            message.add(b", in ")?;
+            Ok(message.quoted(&name_of(alloc, added)?)?)
+        }
+        _ => Ok(()),
+    }
+}
+
+/// Why there is no main stream.
+fn no_main(known: Known<'_>) -> &'static [u8] {
+    match known.source.main {
+        Some(name) if known.declaration_named(name.as_bytes()).is_none() => {
+            b"no stream is declared with the name that --main gives"
+        }
+        Some(_) => b"the stream that --main names isn't void->void without parameters",
+        None => b"no stream is declared void->void without parameters",
     }
 }
 
@@ -173,7 +230,7 @@ fn push_unbalanced(
     known: Known<'_>,
     channel: usize,
 ) -> Result<(), NoMemory> {
-    push_channel(message, known.graph, channel)?;
+    push_channel(message, known.named_graph(), channel)?;
     message.add(b" can't be balanced")?;
     if let Some(graph) = known.graph {
         if let Some(items) = unbalanced_items(known.alloc, graph, channel)? {
@@ -195,7 +252,7 @@ fn push_unbalanced(
 fn push_large(message: &mut Message, known: Known<'_>) -> Result<(), NoMemory> {
     if let Some(graph) = known.graph {
         if let Some(channel) = large_channel(known.alloc, graph)? {
-            push_channel(message, Some(graph), channel)?;
+            push_channel(message, known.named_graph(), channel)?;
             return Ok(message.add(b" makes a node fire more than 1,000,000 times in a round")?);
         }
     }

@@ -8,8 +8,7 @@ use strc_work_meaning::fault::Cause;
 pub(crate) fn plain_sentence(source: Source<'_>, refusal: &Refusal) -> &'static [u8] {
     match refusal {
         Refusal::Lex { at } => lexical_sentence(source.text, *at),
-        Refusal::ConstFault { cause } => fault_sentence(*cause),
-        Refusal::NoMain => no_main(source.main),
+        Refusal::ConstFault { cause } => start_fault_sentence(*cause),
         Refusal::TypeMismatch { .. } => {
             b"a type, a kind or a part isn't the one that must be there"
         }
@@ -66,20 +65,13 @@ fn is_before_letter(text: &[u8], at: usize) -> bool {
 }
 
 /// Which fault the text comes to before it runs.
-fn fault_sentence(cause: Cause) -> &'static [u8] {
+pub(crate) fn start_fault_sentence(cause: Cause) -> &'static [u8] {
     match cause {
         Cause::DivZero => b"a number is divided by zero while the streams are put together",
         Cause::Index => b"an index or a length is out of bounds while the streams are put together",
         Cause::PeekRange => b"an item is looked at while the streams are put together",
         Cause::Turns => b"loops turn more than 1,000,000 times while the streams are put together",
         Cause::Calls => b"more than 64 calls run at once while the streams are put together",
-    }
-}
-
-fn no_main(main: Option<&str>) -> &'static [u8] {
-    match main {
-        Some(_) => b"the stream that --main names isn't void->void without parameters",
-        None => b"no stream is declared void->void without parameters",
     }
 }
 

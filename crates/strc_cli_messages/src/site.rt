@@ -32,6 +32,7 @@ pub(crate) fn site_of(known: Known<'_>, placed: &PlacedRefusal) -> Site
     Site {
         place,
         mismatch: site.mismatch,
+        trapped: site.trapped,
     }
 }
 

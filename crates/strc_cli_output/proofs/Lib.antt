@@ -1,7 +1,7 @@
-pub mod PlanLines
+pub mod NodeWorks
+pub mod Orders
 pub mod Pieces
+pub mod PlanLines
 pub mod Pushing
-mod Boxes
-mod Shares
-mod Texts
-mod WorkLines
+pub mod Sums
+pub mod Texts

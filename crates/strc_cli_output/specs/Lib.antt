@@ -1,8 +1,5 @@
 pub mod Output
 pub mod Pieces
-pub mod Marks
-pub mod Parts
-pub mod Pictures
-pub mod Stages
-pub mod Lists
 pub mod Works
+pub mod Totals
+pub mod NodeOrders

@@ -70,8 +70,8 @@ fn push_named_tapes(text: &mut Vec<u8>, graph: &Graph, tapes: &[Tape]) -> Result
     Ok(())
 }
 
-// A tape after its line.
-fn push_tape(
+/// A tape after its line.
+pub fn push_tape(
     text: &mut Vec<u8>,
     graph: &Graph,
     number: usize,
@@ -120,8 +120,8 @@ fn push_tape_line(
     )
 }
 
-// Words whose last line is closed.
-fn push_closed(text: &mut Vec<u8>, words: &[Word]) -> Result<(), AllocError>
+/// Words whose last line is closed.
+pub fn push_closed(text: &mut Vec<u8>, words: &[Word]) -> Result<(), AllocError>
     ensures { OnOk result (text.new.items ≡ text.old.items ++ spec.closed_text words.now) }
 {
     push_words(text, words)?;
@@ -154,8 +154,8 @@ pub fn leaves_line_open(words: &[Word]) -> bool
     }
 }
 
-// The line of a fault: its cause, the node, how often it had fired before, and when.
-fn push_fault(
+/// The line of a fault: its cause, the node, how often it had fired before, and when.
+pub fn push_fault(
     text: &mut Vec<u8>,
     node: u32,
     firing: u64,

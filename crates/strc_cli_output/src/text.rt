@@ -9,7 +9,7 @@ use std::alloc::AllocError;
 
 /// A piece of a line.
 #[derive(Clone, Copy)]
-pub(crate) enum Piece<'a> {
+pub enum Piece<'a> {
     /// Bytes as they are.
     Bytes(&'a [u8]),
     /// A number in decimal.
@@ -18,7 +18,7 @@ pub(crate) enum Piece<'a> {
 
 /// Adds pieces one after another.
 #[tactic(auto, using(crate::proofs::Pieces::first_apart))]
-pub(crate) fn push_pieces(text: &mut Vec<u8>, pieces: &[Piece<'_>]) -> Result<(), AllocError>
+pub fn push_pieces(text: &mut Vec<u8>, pieces: &[Piece<'_>]) -> Result<(), AllocError>
     ensures { OnOk result (text.new.items ≡ text.old.items ++ pieces_text pieces.now) }
 {
     for piece in pieces {
@@ -38,7 +38,7 @@ fn push_piece(text: &mut Vec<u8>, piece: Piece<'_>) -> Result<(), AllocError>
 }
 
 /// Adds bytes at the end.
-pub(crate) fn push_bytes(text: &mut Vec<u8>, bytes: &[u8]) -> Result<(), AllocError>
+pub fn push_bytes(text: &mut Vec<u8>, bytes: &[u8]) -> Result<(), AllocError>
     ensures { OnOk result (text.new.items ≡ text.old.items ++ bytes.now) }
 {
     text.extend_from_slice(bytes)?;

@@ -20,7 +20,8 @@ use Rattle.strc_cli_places.specs.Large.{MarksLarge}
 use Rattle.strc_cli_places.specs.Nodes.{MarksChannel, MarksStatement, declared_name, heading_of}
 use Rattle.strc_cli_places.specs.Nodes.{node_statement}
 use Rattle.strc_cli_places.specs.Parts.{IsUndeclared, MarksDeclaration, declaration_at, ends_of}
-use Rattle.strc_cli_places.specs.Refused.{MarksLevels, MarksRateOf, fault_part, is_beyond, is_wrong}
+use Rattle.strc_cli_places.specs.Refused.{MarksLevels, MarksRateOf, MarksTrapped, fault_part}
+use Rattle.strc_cli_places.specs.Refused.{is_beyond, is_wrong}
 use Rattle.strc_cli_places.specs.Refused.{outside_at, uncounted_at}
 use Rattle.strc_cli_places.specs.Streams.{main_of, members_at}
 
@@ -49,11 +50,15 @@ module _ (text : List ℕ) (tokens : List Token) (asked : Option (List ℕ)) (pr
   MarksDeep None place = MarksMain place
   MarksDeep (Some at) place = MarksLevels tokens program at place
 
-  -- what faults before the program runs
-  abbrev pub MarksFault : Cause → (at : Option Span) → Option Span → Type 0
-  MarksFault cause None place = MarksMain place
-  MarksFault cause (Some at) place =
+  -- a statement that faults before the program runs; where none is known the main stream's name
+  abbrev pub MarksFaultAt : Cause → (at : Option Span) → Option Span → Type 0
+  MarksFaultAt cause None place = MarksMain place
+  MarksFaultAt cause (Some at) place =
       place ≡ Some (fault_part tokens cause (members_at text program at) at)
+
+  -- what faults before the program runs
+  abbrev pub MarksFault : Cause → Option Span → Type 0
+  MarksFault cause place = MarksTrapped tokens cause place ⊎ MarksFaultAt cause site.place place
 
   -- a statement of a node's filter; where none is found the filter's name, or the statement that
   -- the node comes from
@@ -77,7 +82,7 @@ module _ (text : List ℕ) (tokens : List Token) (asked : Option (List ℕ)) (pr
   MarksRefusal (refusal.BadWeights stream) place = MarksStream stream site.place place
   MarksRefusal refusal.NodeLimit place = MarksDeep site.place place
   MarksRefusal refusal.DepthLimit place = MarksDeep site.place place
-  MarksRefusal (refusal.ConstFault cause) place = MarksFault cause site.place place
+  MarksRefusal (refusal.ConstFault cause) place = MarksFault cause place
   -- a main stream that is asked for, where its name is written
   MarksRefusal refusal.NoMain place = IfSome asked (λ name. Marks text tokens name place
       ⊎ IsUndeclared program name)

@@ -1,11 +1,15 @@
 -- Which rates of a filter break a rule, and what is marked for one that does; which refusals are
 -- about a statement, and what is marked for a fault before the program runs.
 use Rattle.std.specs.Prelude.{◌≡◌, ◌⊎◌, ℕ, ℤ, pos, Bool, true, false, not, ◌&&◌, ◌||◌, List, []}
-use Rattle.std.specs.Prelude.{Option, Some, None, IfSome, unwrap_or, slice_get, ◌==◌, if◌then◌else◌}
+use Rattle.std.specs.Prelude.{Option, Some, None, IfSome, unwrap_or, slice_get, ◌==◌, ◌^◌, ◌-◌}
+use Rattle.std.specs.Prelude.{if◌then◌else◌}
 use Rattle.std.specs.Option.{option_map, option_and_then}
 use Rattle.std.specs.Ordering.{int_eq}
 use Rattle.strc_lex_names.specs.declared.place.Span.{Span}
 use Rattle.strc_lex.specs.declared.token.Token.{Token}
+use Rattle.strc_lex.specs.declared.token.TokenKind.{TokenKind}
+use Rattle.strc_lex.specs.declared.token.TokenKind.TheVariants as kinds
+use Rattle.strc_lex.specs.declared.token.Keyword.TheVariants as keywords
 use Rattle.strc_lex.specs.KeywordTexts.{keyword_text}
 use Rattle.strc_parse_tree.specs.declared.tree.FilterTree.{FilterTree}
 use Rattle.strc_parse_tree.specs.declared.tree.Member.{Member}
@@ -25,12 +29,14 @@ use Rattle.strc_elab_graph.specs.declared.graph.Node.{Node}
 use Rattle.strc_elab_graph.specs.declared.graph.Node.TheVariants as node
 use Rattle.strc_elab_graph.specs.NodeView.{GraphParts}
 use Rattle.strc_work_meaning.specs.declared.fault.Cause.{Cause}
+use Rattle.strc_work_meaning.specs.declared.fault.Cause.TheVariants as causes
 use Rattle.strc_cli_source.specs.Headings.{heading}
 use Rattle.strc_cli_places.specs.declared.rate_places.Moved.{Moved}
 use Rattle.strc_cli_places.specs.Keywords.{declared_keyword}
 use Rattle.strc_cli_places.specs.Nodes.{MarksName}
 use Rattle.strc_cli_source.specs.Operators.{can_fault, faulting_part, operator_at}
 use Rattle.strc_cli_source.specs.Spelling.{MarksFrom}
+use Rattle.strc_cli_source.specs.Tokens.{is_keyword}
 use Rattle.strc_cli_places.specs.Streams.{IsRecursive}
 use Rattle.strc_cli_statements.specs.Statements.{fault_place, start_fault_place, uncounted_place}
 use Rattle.strc_cli_statements.specs.Statements.{outside_place}
@@ -141,10 +147,10 @@ MarksLevels tokens program at place = ((statement : Span) × IsRecursive program
     × (place ≡ Some (heading statement tokens))) ⊎ (place ≡ Some (heading at tokens))
 
 -- what is marked of a fault before the program runs, at a site with this place: that of the filter
--- that starts there, or else the heading of what is there
+-- that starts there, or else the part of what is there
 abbrev pub fault_part : List Token → Cause → Option (List Member) → (at : Span) → Span
 fault_part tokens cause members at =
-    unwrap_or (start_part tokens cause members) (heading at tokens)
+    unwrap_or (start_part tokens cause members) (faulting_part tokens cause at)
 
 -- the name by which the filter of a node is declared
 abbrev pub filter_name : Option Node → Option (List ℕ)
@@ -157,11 +163,43 @@ IsOperatorOf tokens cause part = (number : ℕ)
     × (option_map (λ token. can_fault cause token.kind) (slice_get tokens number) ≡ Some true)
     × (operator_at tokens (Some number) ≡ Some part)
 
--- what is marked of a fault in a firing of a node, of this body: an operator that can fault so; or
--- the part of the only statement that can, or else the name of its filter
+-- a token that a loop begins with, or the name of what is called
+abbrev pub is_name : TokenKind → Bool
+is_name (kinds.Name name) = true
+is_name _ = false
+
+abbrev pub is_loop : TokenKind → Bool
+is_loop kind = is_keyword keywords.While kind || is_keyword keywords.For kind
+
+-- of what a turn, or a call, can be one too many
+abbrev pub can_turn : Cause → TokenKind → Bool
+can_turn causes.Turns kind = is_loop kind
+can_turn causes.Calls kind = is_name kind
+can_turn _ _ = false
+
+-- what is marked of it: the heading of a loop, and what is called
+abbrev pub turning_span : Token → Span
+turning_span found = if is_loop found.kind
+    then (record { start = found.span.start; end = 2 ^ 64 - 1 }) else found.span
+
+-- a loop of the text, or what is called there, of which a turn or a call can be one too many
+abbrev pub IsTurnOf : List Token → Cause → Span → Type 0
+IsTurnOf tokens cause part = (found : Token) × (number : ℕ)
+    × (slice_get tokens number ≡ Some found) × (can_turn cause found.kind ≡ true)
+    × (part ≡ heading (turning_span found) tokens)
+
+-- an operator that can fault so, or a loop or a call
+abbrev pub IsTrappedPart : List Token → Cause → Span → Type 0
+IsTrappedPart tokens cause part = IsOperatorOf tokens cause part ⊎ IsTurnOf tokens cause part
+
+abbrev pub MarksTrapped : List Token → Cause → Option Span → Type 0
+MarksTrapped tokens cause place =
+    (part : Span) × (place ≡ Some part) × IsTrappedPart tokens cause part
+
+-- what is marked of a fault in a firing of a node, of this body: what trapped, or the part of the
+-- only statement that can fault so, or else the name of its filter
 abbrev pub MarksFaultOf : List ℕ → List Token → Cause → Body → Option Node → Option Span → Type 0
-MarksFaultOf text tokens cause body faulting place =
-    ((part : Span) × (place ≡ Some part) × IsOperatorOf tokens cause part)
+MarksFaultOf text tokens cause body faulting place = MarksTrapped tokens cause place
     ⊎ MarksPart text tokens cause (filter_name faulting)
     (option_and_then (fault_place cause body) (node_tree faulting)) place
 

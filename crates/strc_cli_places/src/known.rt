@@ -6,6 +6,7 @@ ghost use Rattle.strc_parse_tree.specs.View.{declaration_view};
 ghost use Rattle.strc_elab_statements.specs.MainStreams.{can_be_main};
 
 use std::alloc::Global;
+use strc_cli_source::nodes::NamedGraph;
 use strc_cli_source::preorder::Preorder;
 use strc_cli_source::source::Source;
 use strc_cli_source::spelling::spelled_or_first;
@@ -23,6 +24,8 @@ pub struct Known<'a> {
     pub program: Option<&'a Program>,
     pub nodes: Option<&'a Preorder>,
     pub graph: Option<&'a Graph>,
+    /// The path of each node; none where they aren't known.
+    pub paths: &'a [Vec<u8>],
 }
 
 impl<'a> Known<'a> {
@@ -31,6 +34,17 @@ impl<'a> Known<'a> {
     ghost use Rattle.strc_cli_places.specs.Parts as parts;
     ghost use Rattle.strc_cli_source.specs.Spelling as spelling;
     ghost use Rattle.strc_cli_places.specs.Streams.{declared_as, main_of};
+
+    /// The flat graph with the paths of its nodes, where it is known.
+    pub fn named_graph(self) -> Option<NamedGraph<'a>> {
+        match self.graph {
+            Some(graph) => Some(NamedGraph {
+                graph,
+                paths: self.paths,
+            }),
+            None => None,
+        }
+    }
 
     /// The declarations of the program; none where it has no tree.
     pub fn declarations(self) -> &'a [Decl]

@@ -26,3 +26,4 @@ pub mod places;
 pub mod rate_places;
 pub mod recursion;
 pub mod starts;
+pub mod trapped;

@@ -21,8 +21,10 @@ use crate::origins::{place_of_channel, place_of_node};
 use crate::rate_places::{moved_of, place_of_rate};
 use crate::recursion::recursive_statement;
 use crate::starts::faulting_start;
+use crate::trapped::trapped_part;
 use strc_cli_counts::large::large_channel;
 use strc_cli_source::channel_rates::rates_of;
+use strc_cli_source::operators::faulting_part;
 use strc_cli_source::spelling::{beginning_or_first, first_spelled, spelled_or_first};
 use strc_cli_source::tokens::{count_of, keyword_before};
 use strc_cli_statements::bodies::{peek_outside, uncounted_statement};
@@ -33,7 +35,7 @@ use strc_lex_names::place::Span;
 use strc_parse_tree::tree::CompositeKind;
 use strc_run_refusal::refusal::Refusal;
 use strc_work_code::code::Code;
-use strc_work_meaning::fault::Cause;
+use strc_work_meaning::fault::{Cause, LocatedCause};
 use strc_work_rules::site::{Mismatch, Part, Site};
 
 /// In a text of more tokens no unused declaration is looked for.
@@ -237,6 +239,21 @@ fn place_of_fault(known: Known<'_>, site: Site, cause: Cause) -> Result<Option<S
         known.entry.source.tokens.now (option_map (λ m. m.now) known.entry.source.main)
         (option_map (λ p. p.now) known.entry.program) (option_map (λ n. n.now) known.entry.nodes)
         (option_map (λ g. g.now) known.entry.graph) site
+        cause) }
+{
+    let located = LocatedCause::new(cause, site.trapped);
+    match trapped_part(known.source, &located) {
+        Some(part) => Ok(Some(part)),
+        None => place_of_faulting(known, site, cause),
+    }
+}
+
+/// The part of the statement at a site that faults; where none is known the main stream.
+fn place_of_faulting(known: Known<'_>, site: Site, cause: Cause) -> Result<Option<Span>, NoMemory>
+    ensures { IfOk result (marked.MarksFaultAt known.entry.source.text.now
+        known.entry.source.tokens.now (option_map (λ m. m.now) known.entry.source.main)
+        (option_map (λ p. p.now) known.entry.program) (option_map (λ n. n.now) known.entry.nodes)
+        (option_map (λ g. g.now) known.entry.graph) site
         cause site.place) }
 {
     let Some(place) = site.place else {
@@ -244,7 +261,7 @@ fn place_of_fault(known: Known<'_>, site: Site, cause: Cause) -> Result<Option<S
     };
     match faulting_start(known, place, cause)? {
         Some(start) => Ok(Some(start)),
-        None => Ok(Some(known.source.heading(place))),
+        None => Ok(Some(faulting_part(known.source, place, cause))),
     }
 }
 

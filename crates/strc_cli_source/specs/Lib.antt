@@ -1,8 +1,7 @@
 pub mod Headings
 pub mod Joined
-pub mod Messages
+pub mod NodeWords
 pub mod Operators
-pub mod Places
 pub mod Preorders
 pub mod Rates
 pub mod Spelling

@@ -13,8 +13,9 @@ ghost use Rattle.strc_cli_source.specs.Preorders.{tree_of, trees_of, nodes_of, r
 ghost use Rattle.strc_cli_source.specs.Preorders.{row_size, ends_of, side_exits, Row, node_if};
 ghost use Rattle.strc_cli_source.specs.Preorders.{part_name, links_of, side_links};
 
-use crate::message::Message;
+use crate::nodes::{push_named, push_number};
 use std::alloc::Global;
+use strc_cli_diagnostics::message::Message;
 use strc_elab_graph::graph::Splitter;
 use strc_elab_graph::instance::Instance;
 use strc_elab_stream::stream::Stream;
@@ -222,6 +223,9 @@ fn gives_items(splitter: &Splitter) -> bool
 
 impl Preorder {
     ghost use Rattle.std.specs.Prelude.{◌≡◌, ◌+◌, ◌<◌, OnOk, IfOk, IfSome, length, [], ◌∷◌};
+    ghost use Rattle.std.specs.Prelude.{slice_get};
+    ghost use Rattle.strc_cli_diagnostics.specs.Messages.{with_more};
+    ghost use Rattle.strc_cli_source.specs.NodeWords.{seen_words};
     ghost use Rattle.std.specs.Prelude.{true, false, None, Some, codes};
     ghost use Rattle.std.specs.Option.{option_map};
     ghost use Rattle.strc_elab_stream.specs.declared.stream.Stream.TheVariants as stream;
@@ -419,18 +423,26 @@ impl Preorder {
         Ok(first_left(&joined))
     }
 
-    /// A node's name and number.
-    pub fn push_name(&self, message: &mut Message, node: usize) -> Result<(), NoMemory> {
-        if let Some(seen) = self.nodes.get(node) {
-            message.quoted(&seen.name)?;
-            message.add(b" (")?;
+    /// A node's name and number, and its path, where it is known.
+    pub fn push_name(
+        &self,
+        message: &mut Message,
+        paths: &[Vec<u8>],
+        node: usize,
+    ) -> Result<(), NoMemory>
+        ensures { OnOk result (message.new ≡ with_more message.old (seen_words self.now
+            (option_map (λ p. p.items) (slice_get paths.now node)) node)) }
+    {
+        match self.nodes.get(node) {
+            Some(seen) => {
+                push_named(message, &seen.name, paths, node)?;
+                Ok(())
+            }
+            None => {
+                push_number(message, node)?;
+                Ok(())
+            }
         }
-        message.add(b"node ")?;
-        message.number(node as u64)?;
-        if node < self.nodes.len() {
-            message.add(b")")?;
-        }
-        Ok(())
     }
 }
 

@@ -1,23 +1,17 @@
-// A program's text with its file's name and its tokens.
+// A program's text with its tokens.
 
-ghost use Rattle.std.specs.Prelude.{◌≡◌, ◌-◌, ◌<◌, take, drop, IfOk, true};
+ghost use Rattle.std.specs.Prelude.{◌≡◌, ◌-◌, ◌<◌, take, drop, true};
 ghost use Rattle.strc_cli_source.specs.Headings as spec;
 ghost use Rattle.strc_cli_source.specs.Headings.{heading, end_from};
-ghost use Rattle.strc_cli_source.specs.Messages.{IsMessageOf};
 ghost use Rattle.strc_cli_source.specs.Tokens.{tokens_in};
 
-use crate::message::Message;
 use crate::tokens::is_mark;
-use std::alloc::Global;
 use strc_lex::token::{Punctuation, Token};
-use strc_lex_names::memory::NoMemory;
 use strc_lex_names::place::Span;
 
 /// A program's text.
 #[derive(Clone, Copy)]
 pub struct Source<'a> {
-    /// The name of its file.
-    pub file: &'a str,
     pub text: &'a [u8],
     pub tokens: &'a [Token],
     /// The main stream that is asked for.
@@ -25,27 +19,6 @@ pub struct Source<'a> {
 }
 
 impl<'a> Source<'a> {
-    /// The whole message that says this, at a place where there is one.
-    pub fn message(
-        self,
-        alloc: Global,
-        place: Option<Span>,
-        message: Message,
-    ) -> Result<Vec<u8>, NoMemory>
-        ensures { IfOk result (λ message.
-            IsMessageOf self.entry.file.now self.entry.text.now place message.items) }
-    {
-        Ok(message.end(alloc, self.file, self.text, place)?)
-    }
-
-    /// The source line of a place, where there is one.
-    pub fn excerpt(self, message: &mut Message, place: Option<Span>) -> Result<(), NoMemory> {
-        match place {
-            Some(part) => Ok(message.excerpt(self.text, part)?),
-            None => Ok(()),
-        }
-    }
-
     /// The bytes of a place.
     pub fn bytes(self, place: Span) -> &'a [u8]
         ensures { result.now ≡ take (place.end - place.start)

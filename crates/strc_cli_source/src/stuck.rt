@@ -1,8 +1,11 @@
 // The feedback loop that gets stuck, by its nodes.
 
-use crate::message::Message;
-use crate::nodes::push_node;
+ghost use Rattle.std.specs.Prelude.{[], OnOk};
+ghost use Rattle.strc_cli_source.specs.NodeWords.{Adds, BeginsWith};
+
+use crate::nodes::{NamedGraph, push_node};
 use std::alloc::{AllocError, Global};
+use strc_cli_diagnostics::message::Message;
 use strc_elab_graph::graph::{Channel, Graph, Node};
 use strc_elab_graph::rates::{pops_at, pushes_at, window_at};
 
@@ -26,19 +29,22 @@ struct Trial<'a> {
 }
 
 /// Names the nodes of a loop whose joiner waits for items of the loop itself, where there is one.
+#[tactic(auto, using(crate::proofs::NamedNodes::adds_nothing))]
 pub fn push_stuck_loop(
     alloc: Global,
     message: &mut Message,
-    graph: Option<&Graph>,
-) -> Result<(), AllocError> {
-    let Some(graph) = graph else {
+    named: Option<NamedGraph<'_>>,
+) -> Result<(), AllocError>
+    ensures { OnOk result (Adds (BeginsWith []) message.old message.new) }
+{
+    let Some(named) = named else {
         return Ok(());
     };
-    if graph.nodes().len() > MOST_NODES {
+    if named.graph.nodes().len() > MOST_NODES {
         return Ok(());
     }
-    match stuck_joiner(alloc, graph)? {
-        Some(joiner) => push_loop(message, graph, joiner),
+    match stuck_joiner(alloc, named.graph)? {
+        Some(joiner) => push_loop(message, named, joiner),
         None => Ok(()),
     }
 }
@@ -173,19 +179,23 @@ fn comes_back(channel: &Channel, node: usize) -> bool {
 }
 
 /// The nodes of a loop, or of one round it, the joiner first.
-fn push_loop(message: &mut Message, graph: &Graph, joiner: usize) -> Result<(), AllocError> {
+#[tactic(auto, using(crate::proofs::NamedNodes::adds_nothing))]
+fn push_loop(message: &mut Message, named: NamedGraph<'_>, joiner: usize) -> Result<(), AllocError>
+    ensures { OnOk result (Adds (BeginsWith []) message.old message.new) }
+{
+    let graph = named.graph;
     if joiner >= graph.nodes().len() {
         return Ok(());
     }
     let outer = graph.outer_loop(joiner);
     message.add(b"; stuck is the loop of ")?;
-    push_node(message, Some(graph), joiner)?;
-    let mut named: usize = 1;
+    push_node(message, Some(named), joiner)?;
+    let mut count: usize = 1;
     for node in joiner..graph.nodes().len() {
-        if node != joiner && graph.outer_loop(node) == outer && named < NAMED {
-            named += 1;
+        if node != joiner && graph.outer_loop(node) == outer && count < NAMED {
+            count += 1;
             message.add(b", ")?;
-            push_node(message, Some(graph), node)?;
+            push_node(message, Some(named), node)?;
         }
     }
     Ok(())

@@ -4,7 +4,7 @@ ghost use Rattle.std.specs.Prelude.{OnOk};
 ghost use Rattle.strc_cli_syntax.specs.Words.{GoesOnWithHint};
 
 use crate::hint_words::push_words;
-use strc_cli_source::message::Message;
+use strc_cli_diagnostics::message::Message;
 use strc_lex_names::memory::NoMemory;
 
 /// A hint on a word, where it is one of C's, of Java's or of StreamIt's own. Whether it is.
@@ -25,7 +25,8 @@ pub(crate) fn foreign_hint(word: &[u8]) -> &'static [u8] {
     }
 }
 
-const CONSTANT: &str = "a parameter keeps its value, and so does a field that only init sets";
+const CONSTANT: &str = "a parameter keeps its value, and so does a field that only init sets, as a \
+    table: `int[31] t; init { t[0] = 5; t[1] = 7; }`";
 
 const NUMBERS: &str = "numbers are `int`, of 32 bits with a sign";
 
@@ -57,7 +58,7 @@ const FOREIGN: [(&str, &str); 48] = [
     ("final", CONSTANT),
     (
         "static",
-        "a field of a filter keeps its value from firing to firing",
+        "a field of a filter keeps its value from firing to firing, and init sets it first",
     ),
     ("unsigned", NUMBERS),
     ("signed", NUMBERS),

@@ -3,7 +3,7 @@
 ghost use Rattle.std.specs.Prelude.{OnOk};
 ghost use Rattle.strc_cli_syntax.specs.Words.{GoesOnWithHint};
 
-use strc_cli_source::message::Message;
+use strc_cli_diagnostics::message::Message;
 use strc_lex_names::memory::NoMemory;
 
 /// A hint in these words, if there are any.

@@ -1,10 +1,10 @@
-// Hints on a number that isn't one here: of another base, with zeros before it, or too large.
+// Hints on a number that isn't one here: of another base, with zeros or an exponent, or too large.
 
 ghost use Rattle.std.specs.Prelude.{OnOk};
 ghost use Rattle.strc_cli_syntax.specs.Words.{GoesOnWithHint};
 
 use crate::hint_words::push_words;
-use strc_cli_source::message::Message;
+use strc_cli_diagnostics::message::Message;
 use strc_lex_names::memory::NoMemory;
 
 /// The greatest number of 32 bits.
@@ -18,17 +18,53 @@ pub fn push_number_hint(message: &mut Message, text: &[u8], at: usize) -> Result
     if !is_digit(rest.first()) {
         return Ok(());
     }
-    match hexadecimal_digits(rest) {
-        Some(digits) => push_value(message, value_of(digits, 16)),
-        None => push_value(message, value_of(rest, 10)),
+    let (digits, base) = digits_and_base(rest);
+    if ends_within_word(digits, base) {
+        return push_words(
+            message,
+            b"numbers are decimal digits alone, of 32 bits with a sign",
+        );
+    }
+    push_value(message, value_of(digits, base))
+}
+
+/// The digits of a number as C writes it, and their base: 16 after `0x`, 2 after `0b`, 8 after `0o`
+/// or another 0, else 10.
+fn digits_and_base(number: &[u8]) -> (&[u8], u64) {
+    match (number.first(), number.get(1)) {
+        (Some(b'0'), Some(b'x' | b'X')) => (without_prefix(number), 16),
+        (Some(b'0'), Some(b'b' | b'B')) => (without_prefix(number), 2),
+        (Some(b'0'), Some(b'o' | b'O')) => (without_prefix(number), 8),
+        (Some(b'0'), Some(b'0'..=b'9')) => (number, 8),
+        _ => (number, 10),
     }
 }
 
-/// The digits after `0x`.
-fn hexadecimal_digits(number: &[u8]) -> Option<&[u8]> {
-    match number.get(1) {
-        Some(b'x' | b'X') => number.get(2..),
-        _ => None,
+fn without_prefix(number: &[u8]) -> &[u8] {
+    match number.get(2..) {
+        Some(digits) => digits,
+        None => b"",
+    }
+}
+
+/// Whether the word that begins with digits of a base goes on after them, or has none.
+fn ends_within_word(word: &[u8], base: u64) -> bool {
+    let mut count: usize = 0;
+    for byte in word {
+        match digit_of(*byte) {
+            Some(digit) if digit < base => count = count.saturating_add(1),
+            Some(_) => return true,
+            None => return count == 0 || is_of_word(*byte),
+        }
+    }
+    count == 0
+}
+
+/// Whether a byte that is no digit goes on a word.
+fn is_of_word(byte: u8) -> bool {
+    match byte {
+        b'a'..=b'z' | b'A'..=b'Z' | b'_' => true,
+        _ => false,
     }
 }
 

@@ -4,7 +4,7 @@ ghost use Rattle.std.specs.Prelude.{OnOk};
 ghost use Rattle.strc_cli_syntax.specs.Words.{GoesOnWithHint};
 
 use crate::place_words::push_place;
-use strc_cli_source::message::Message;
+use strc_cli_diagnostics::message::Message;
 use strc_cli_source::source::Source;
 use strc_cli_source::tokens::is_mark;
 use strc_lex::token::{Punctuation, Span, Token};
@@ -26,6 +26,19 @@ pub(crate) fn push_open_brace(
         }
         None => Ok(()),
     }
+}
+
+/// Whether a text has more `{` than `}`.
+pub(crate) fn lacks_close_brace(source: Source<'_>) -> bool {
+    let opened = source
+        .tokens
+        .iter()
+        .filter(|it| is_mark(it, Punctuation::OpenBrace));
+    let closed = source
+        .tokens
+        .iter()
+        .filter(|it| is_mark(it, Punctuation::CloseBrace));
+    opened.count() > closed.count()
 }
 
 /// Whether no `{` is open before a token.

@@ -4,12 +4,13 @@ ghost use Rattle.std.specs.Prelude.{OnOk};
 ghost use Rattle.std.specs.Option.{option_map};
 ghost use Rattle.strc_cli_syntax.specs.Words.{GoesOnAt};
 
-use strc_cli_source::message::Message;
-use strc_cli_source::place::place_of;
+use strc_cli_diagnostics::message::Message;
+use strc_cli_diagnostics::place::place_of;
 use strc_lex_names::memory::NoMemory;
 use strc_lex_names::place::Span;
 
 /// Where a part of a text begins, if there is one, as `, in line 3, column 1`.
+#[tactic(auto, using(crate::proofs::Words::at_place))]
 pub fn push_place(message: &mut Message, text: &[u8], place: Option<Span>) -> Result<(), NoMemory>
     ensures { OnOk result (GoesOnAt text.now place message.old message.new) }
 {

@@ -1,17 +1,19 @@
 // What a person reads of a token that can't stand where it is.
 
-ghost use Rattle.std.specs.Prelude.{◌≡◌, ◌++◌, OnOk};
+ghost use Rattle.std.specs.Prelude.{◌≡◌, OnOk};
+ghost use Rattle.strc_cli_diagnostics.specs.Messages.{with_more};
 ghost use Rattle.strc_cli_syntax.specs.Words.{GoesOn, syntax_words};
 
 use crate::expected_tokens::{Expected, expected_after};
 use std::alloc::Global;
-use strc_cli_source::message::Message;
+use strc_cli_diagnostics::message::Message;
 use strc_cli_source::source::Source;
 use strc_lex_names::memory::NoMemory;
 use strc_lex_names::place::Span;
 
 /// What is where it can't be, and what could be there; past the last token, that the text ends too
 /// soon.
+#[tactic(auto, using(crate::proofs::Words::goes_nowhere))]
 pub fn push_syntax(
     alloc: Global,
     message: &mut Message,
@@ -19,8 +21,8 @@ pub fn push_syntax(
     token: usize,
 ) -> Result<(), NoMemory>
     // The sentence begins with the token.
-    ensures { OnOk result (GoesOn (message.old
-        ++ syntax_words source.entry.text.now source.entry.tokens.now token) message.new) }
+    ensures { OnOk result (GoesOn (with_more message.old
+        (syntax_words source.entry.text.now source.entry.tokens.now token)) message.new) }
 {
     push_unexpected(message, source, token)?;
     let end = match source.tokens.get(token) {
@@ -36,8 +38,8 @@ pub fn push_syntax(
 
 /// What is where it can't be.
 fn push_unexpected(message: &mut Message, source: Source<'_>, token: usize) -> Result<(), NoMemory>
-    ensures { OnOk result (message.new ≡ message.old
-        ++ syntax_words source.entry.text.now source.entry.tokens.now token) }
+    ensures { OnOk result (message.new ≡ with_more message.old
+        (syntax_words source.entry.text.now source.entry.tokens.now token)) }
 {
     match source.tokens.get(token) {
         Some(found) => {
@@ -49,6 +51,7 @@ fn push_unexpected(message: &mut Message, source: Source<'_>, token: usize) -> R
 }
 
 /// What could be there: kinds of things first, then tokens.
+#[tactic(auto, using(crate::proofs::Words::goes_nowhere))]
 fn push_expected(message: &mut Message, expected: &Expected) -> Result<(), NoMemory>
     ensures { OnOk result (GoesOn message.old message.new) }
 {

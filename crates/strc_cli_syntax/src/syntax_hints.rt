@@ -6,9 +6,9 @@ ghost use Rattle.strc_cli_syntax.specs.Words.{GoesOnWithHint};
 
 use crate::foreign_words::{MESSAGES, STRUCTURES, foreign_hint};
 use crate::hint_words::push_words;
-use crate::open_braces::{is_outside, push_open_brace};
+use crate::open_braces::{is_outside, lacks_close_brace, push_open_brace};
 use crate::operators::is_bitwise;
-use strc_cli_source::message::Message;
+use strc_cli_diagnostics::message::Message;
 use strc_cli_source::source::Source;
 use strc_cli_source::tokens::{is_keyword, is_mark};
 use strc_lex::token::{Keyword, Punctuation, Token, TokenKind};
@@ -27,10 +27,45 @@ pub fn push_syntax_hint(
         return push_open_brace(message, source, number);
     };
     let hint = token_hint(source, number, found);
-    if hint.is_empty() && can_follow_a_stream(found) {
+    if !hint.is_empty() {
+        return push_words(message, hint);
+    }
+    if !can_follow_a_stream(found) {
+        return Ok(());
+    }
+    if lacks_close_brace(source) {
         return push_open_brace(message, source, number);
     }
-    push_words(message, hint)
+    push_words(message, part_hint(source, number, found))
+}
+
+/// How the beginning of a filter's part or of a stream's head can be mended where every block has
+/// an end; nothing where that isn't known.
+fn part_hint(source: Source<'_>, number: usize, found: &Token) -> &'static [u8] {
+    match before(source, number) {
+        Some(token) if is_part(found) && (is_type(token) || is_keyword(token, Keyword::Void)) => {
+            b"`init`, `prework` and `work` have no type"
+        }
+        Some(token) if ends_value(token) && is_part(found) => {
+            b"a `;` may be missing at the end of the statement before it"
+        }
+        _ => b"",
+    }
+}
+
+/// Whether a token ends an expression.
+fn ends_value(token: &Token) -> bool {
+    match token.kind {
+        TokenKind::Number(_) | TokenKind::Name(_) => true,
+        _ => is_mark(token, Punctuation::CloseParen) || is_mark(token, Punctuation::CloseBracket),
+    }
+}
+
+/// Whether a token begins a part of a filter.
+fn is_part(token: &Token) -> bool {
+    is_keyword(token, Keyword::Init)
+        || is_keyword(token, Keyword::Prework)
+        || is_keyword(token, Keyword::Work)
 }
 
 /// Whether a token begins a part of a filter, or stands in the head of a stream: where it is found
@@ -66,6 +101,9 @@ fn token_hint(source: Source<'_>, number: usize, found: &Token) -> &'static [u8]
 /// How a name can be mended: it is a foreign word, or comes after one, or is that of a global.
 fn word_hint(source: Source<'_>, number: usize, word: &[u8]) -> &'static [u8] {
     if has_type_before(source, number) && is_outside(source, number) {
+        if follows_arrow(source, number) {
+            return b"";
+        }
         return b"numbers and functions stand in streams; or the stream above has a `}` too many";
     }
     or_else(before_hint(source, number), foreign_hint(word))
@@ -112,6 +150,36 @@ fn keyword_hint(source: Source<'_>, number: usize, keyword: Keyword) -> &'static
     }
 }
 
+/// What stands for the foreign word before the parentheses that end before a token.
+fn called_hint(source: Source<'_>, number: usize) -> &'static [u8] {
+    let mut open: usize = 0;
+    for place in (0..number.min(source.tokens.len())).rev() {
+        let token = &source.tokens[place];
+        if is_mark(token, Punctuation::CloseParen) {
+            open = open.saturating_add(1);
+        } else if is_mark(token, Punctuation::OpenParen) {
+            open = open.saturating_sub(1);
+        }
+        if open == 0 {
+            return before_hint(source, place);
+        }
+    }
+    b""
+}
+
+/// Whether the number before a token is a rate.
+fn is_rated(source: Source<'_>, number: usize) -> bool {
+    match before(source, number.saturating_sub(1)) {
+        Some(token) => is_rate(token),
+        None => false,
+    }
+}
+
+/// Whether the type before a token follows an arrow.
+fn follows_arrow(source: Source<'_>, number: usize) -> bool {
+    follows(source, number.saturating_sub(1), Punctuation::Arrow)
+}
+
 /// A hint, or where there is none another one.
 fn or_else(hint: &'static [u8], other: &'static [u8]) -> &'static [u8] {
     if hint.is_empty() { other } else { hint }
@@ -124,11 +192,15 @@ fn mark_hint(source: Source<'_>, number: usize, mark: Punctuation) -> &'static [
         Punctuation::OpenBracket => bracket_hint(source, number),
         Punctuation::Star => star_hint(source, number),
         Punctuation::OpenBrace if follows(source, number, Punctuation::Assign) => {
-            b"the elements of an array are 0 at first, and init can set them"
+            b"the elements of an array are 0 at first: `init { a[0] = 5; a[1] = 7; }` sets them"
         }
         Punctuation::OpenBrace if follows(source, number, Punctuation::CloseParen) => {
-            b"`if`, `while` and `for` have a block"
+            or_else(
+                called_hint(source, number),
+                b"`if`, `while` and `for` have a block",
+            )
         }
+        Punctuation::Comma if is_rated(source, number) => b"rates stand without commas",
         Punctuation::CloseBrace if is_outside(source, number) => {
             b"no `{` is open here: there is a `}` too many before it"
         }
@@ -188,7 +260,7 @@ fn bracket_hint(source: Source<'_>, number: usize) -> &'static [u8] {
     match before(source, number) {
         Some(token) if is_rate(token) => RATES,
         Some(token) if is_type(token) => {
-            b"parameters are numbers: init fills the arrays of a filter"
+            b"parameters are numbers: arrays are fields, which init fills and helper functions see"
         }
         Some(token) if is_mark(token, Punctuation::CloseBracket) => {
             b"arrays have one dimension: `a[i * n + j]`"

@@ -1,6 +1,6 @@
--- Words that have no fault leave rows of one value each, a number of 32 bits for `--rounds`
--- and `--workers`, one from 1 to 64 for `--ways`, one of at most 65,536 for `--fuse`, and one from
--- 1 to 4,096 for `--batch`.
+-- Words that have no fault leave rows of one value each, a number of 32 bits for `--rounds`,
+-- `--workers` and `--depth`, one from 1 to 64 for `--ways`, one of at most 65,536 for `--fuse`, and
+-- one from 1 to 4,096 for `--batch`.
 use Rattle.std.proofs.Common.{append-nil, ◌≡◌, ◌∙◌, ℕ, zero, suc, Bool, true, false, cond, not}
 use Rattle.std.proofs.Common.{◌&&◌, refl, sym, ap, subst, List, [], ◌∷◌, ◌++◌, length, Option, Some}
 use Rattle.std.proofs.Common.{None, is_some, ◌⊎◌, inl, inr, arith, codes}
@@ -95,7 +95,8 @@ IsRead least most reading value = (reading ≡ WithoutMinus) ×
 
 -- whether an option takes a number of 32 bits
 abbrev pub takes_number : Text → Bool
-takes_number id = bytes_eq id (codes "rounds") || bytes_eq id (codes "workers")
+takes_number id = bytes_eq id (codes "rounds") || (bytes_eq id (codes "workers")
+    || bytes_eq id (codes "depth"))
 
 -- whether an option takes a number of copies
 abbrev pub takes_ways : Text → Bool
@@ -116,10 +117,12 @@ pub record IsValueFor (id : Text) (reading : Reading) (value : Text) : Type 0 wh
   pub entries : takes_entries id ≡ true → IsRead 0 most_fused reading value
   pub batch : takes_batch id ≡ true → IsRead 1 most_batched reading value
 
--- a row of one value, which is a number where the row is that of an option that takes one
+-- a row of a value or more, the first of which is a number where the row is that of an option that
+-- takes one
 pub record IsGood (row : Row) : Type 0 where
   pub value : Text
-  pub values : row.values ≡ value ∷ []
+  pub more : List Text
+  pub values : row.values ≡ value ∷ more
   pub fits : IsValueFor row.id row.reading value
 
 -- an argument that one use gives one value
@@ -143,9 +146,17 @@ pub record SetsFlag (rule : Rule) : Type 0 where
   pub missing : rule.missing ≡ codes "true" ∷ []
   pub text : TakesText rule.id
 
--- an argument of one value, a flag, or one that shows the help
+-- an argument to which each use adds one value, and that takes no number
+pub record TakesSeveral (rule : Rule) : Type 0 where
+  pub action : rule.action ≡ Some action.Append
+  pub range : rule.range ≡ Some (record { start_inclusive = 1; end_inclusive = 1 })
+  pub text : TakesText rule.id
+
+-- an argument of one value, a flag, one that shows the help, or one of several values
 abbrev pub IsPlainRule : Rule → Type 0
-IsPlainRule rule = TakesOne rule ⊎ (SetsFlag rule ⊎ (rule.action ≡ Some action.Help))
+IsPlainRule rule =
+    TakesOne rule
+    ⊎ (SetsFlag rule ⊎ ((rule.action ≡ Some action.Help) ⊎ TakesSeveral rule))
 
 repeats_none : (id : Text) (rows : List Row) → repeat_fault false id rows ≡ [] → has_row id rows ≡
     false
@@ -226,7 +237,7 @@ set_good rule one (value ∷ []) rows none good =
     (none_second (repeat_fault false rule.id rows) (values_fault rule (value ∷ [])) set) in
     subst (Each IsGood) (sym (used_once rule one.action value rows new))
     (each_more IsGood rows (row_with rule CommandLine value) good
-    (record { value = value; values = refl; fits = one.fits value passes }))
+    (record { value = value; more = []; values = refl; fits = one.fits value passes }))
 set_good rule one (value ∷ next ∷ more) rows none good =
     let values = value ∷ next ∷ more in
     let counts = none_first
@@ -246,7 +257,7 @@ flag_good rule flag [] rows none good =
     let fits = any_value rule.id (reading_by rule) value flag.text in
     subst (Each IsGood) (sym (flag_once rule flag rows new))
     (each_more IsGood rows (row_with rule CommandLine value) good
-    (record { value = value; values = refl; fits = fits }))
+    (record { value = value; more = []; values = refl; fits = fits }))
 flag_good rule flag (value ∷ more) rows none good =
     let values = value ∷ more in
     let counts = none_first
@@ -264,11 +275,61 @@ help_bad rule help values rows none =
     (action_fault (action_of rule) false rule (values_or_missing rule values) rows) none in
     let bad = rw help at asked in cc
 
+-- one more value leaves a row good
+more_good : (value : Text) (row : Row) → IsGood row
+    → Each IsGood (more_values CommandLine (value ∷ []) row)
+more_good value row good = (
+  record {
+    value = good.value;
+    more = good.more ++ value ∷ [];
+    values = ap (λ (all : List Text). all ++ value ∷ []) good.values;
+    fits = good.fits;
+  },
+  tt,
+)
+
+-- so does it where it is added to the row of an argument, or makes one
+at_row_good : (id value : Text) (missing rows : List Row) → Each IsGood missing
+    → Each IsGood rows → Each IsGood (at_row id (more_values CommandLine (value ∷ [])) missing rows)
+at_row_good id value missing [] new good = new
+at_row_good id value missing (row ∷ rows) new good = go (bytes_eq row.id id)
+    (at_row_good id value missing rows new good.1)
+  where
+    go : (b : Bool) → Each IsGood (at_row id (more_values CommandLine (value ∷ [])) missing rows)
+        → Each IsGood (cond b (more_values CommandLine (value ∷ []) row ++ rows)
+        (row ∷ at_row id (more_values CommandLine (value ∷ [])) missing rows))
+    go true rest = ((more_good value row good.0).0, good.1)
+    go false rest = (good.0, rest)
+
+several_good : (rule : Rule) → TakesSeveral rule → (values : List Text) (rows : List Row)
+    → use_fault false rule values rows ≡ [] → Each IsGood rows
+    → Each IsGood (used rule values rows)
+several_good rule several [] rows none good = let bad = rw several.range at none in cc
+several_good rule several (value ∷ []) rows none good =
+    rw several.action (at_row_good rule.id value (row_with rule CommandLine value ∷ []) rows (
+      record {
+        value = value;
+        more = [];
+        values = refl;
+        fits = any_value rule.id (reading_by rule) value several.text;
+      },
+      tt,
+    ) good)
+several_good rule several (value ∷ next ∷ more) rows none good =
+    let values = value ∷ next ∷ more in
+    let counts = none_first
+    (range_kinds (unwrap_or_range rule.range).start_inclusive (most_values rule)
+    (length values))
+    (action_fault (action_of rule) false rule (values_or_missing rule values) rows) none in
+    absurd (two_values (length more) (rw several.range at counts))
+
 use_good : (rule : Rule) → IsPlainRule rule → (values : List Text) (rows : List Row) → use_fault
     false rule values rows ≡ [] → Each IsGood rows → Each IsGood (used rule values rows)
 use_good rule (inl one) values rows none good = set_good rule one values rows none good
 use_good rule (inr (inl flag)) values rows none good = flag_good rule flag values rows none good
-use_good rule (inr (inr help)) values rows none good = help_bad rule help values rows none
+use_good rule (inr (inr (inl help))) values rows none good = help_bad rule help values rows none
+use_good rule (inr (inr (inr several))) values rows none good =
+    several_good rule several values rows none good
 
 -- ---- defaults
 
@@ -298,6 +359,7 @@ default_good rule plain rows good = go (has_row rule.id rows) refl plain
         (each_more IsGood rows row good
         (record {
           value = one.value;
+          more = [];
           values = refl;
           fits = any_value rule.id (reading_by rule) one.value one.text;
         })))

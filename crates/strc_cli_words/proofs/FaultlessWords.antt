@@ -270,8 +270,16 @@ plain_run = (
                   text = is_text refl refl refl refl;
                 })),
                 (
-                  takes_one _ refl refl (λ value passes. text_fits (is_text refl refl refl refl)),
-                  (inr (inr refl), tt),
+                  inr (inr (inr (record {
+                    action = refl;
+                    range = refl;
+                    text = is_text refl refl refl refl;
+                  }))),
+                  (
+                    takes_one _ refl refl
+                        (λ value passes. text_fits (is_text refl refl refl refl)),
+                    (inr (inr (inl refl)), tt),
+                  ),
                 ),
               ),
             ),
@@ -307,7 +315,7 @@ default_run = (
                   is = refl;
                   text = is_text refl refl refl refl;
                 }),
-                (inl refl, (inl refl, tt)),
+                (inl refl, (inl refl, (inl refl, tt))),
               ),
             ),
           ),
@@ -345,8 +353,20 @@ plain_graph = (
               batch = λ is. cc;
             }),
         (
-          takes_one _ refl refl (λ value passes. text_fits (is_text refl refl refl refl)),
-          (inr (inr refl), tt),
+          takes_one _ refl refl
+              (λ value passes. record {
+                number = λ is. (refl, passes);
+                ways = λ is. cc;
+                entries = λ is. cc;
+                batch = λ is. cc;
+              }),
+          (
+            takes_one _ refl refl (λ value passes. text_fits (is_text refl refl refl refl)),
+            (
+              takes_one _ refl refl (λ value passes. text_fits (is_text refl refl refl refl)),
+              (inr (inr (inl refl)), tt),
+            ),
+          ),
         ),
       ),
     ),
@@ -354,8 +374,13 @@ plain_graph = (
 )
 
 default_graph : Each HasPlainDefault (shape_of graph_app).rules
-default_graph =
-    (inl refl, (inl refl, (inl refl, (inl refl, (inl refl, (inl refl, tt))))))
+default_graph = (
+  inl refl,
+  (
+    inl refl,
+    (inl refl, (inl refl, (inl refl, (inl refl, (inl refl, (inl refl, tt)))))),
+  ),
+)
 
 plain_check : Each IsPlainRule (shape_of check_app).rules
 plain_check = (
@@ -369,7 +394,10 @@ plain_check = (
     })),
     (
       takes_one _ refl refl (λ value passes. text_fits (is_text refl refl refl refl)),
-      (inr (inr refl), tt),
+      (
+        takes_one _ refl refl (λ value passes. text_fits (is_text refl refl refl refl)),
+        (inr (inr (inl refl)), tt),
+      ),
     ),
   ),
 )
@@ -383,7 +411,7 @@ default_check = (
       is = refl;
       text = is_text refl refl refl refl;
     }),
-    (inl refl, (inl refl, tt)),
+    (inl refl, (inl refl, (inl refl, tt))),
   ),
 )
 
@@ -399,7 +427,10 @@ plain_plan = (
     })),
     (
       takes_one _ refl refl (λ value passes. text_fits (is_text refl refl refl refl)),
-      (inr (inr refl), tt),
+      (
+        takes_one _ refl refl (λ value passes. text_fits (is_text refl refl refl refl)),
+        (inr (inr (inl refl)), tt),
+      ),
     ),
   ),
 )
@@ -413,7 +444,7 @@ default_plan = (
       is = refl;
       text = is_text refl refl refl refl;
     }),
-    (inl refl, (inl refl, tt)),
+    (inl refl, (inl refl, (inl refl, tt))),
   ),
 )
 
@@ -426,7 +457,7 @@ plain_other = (
   takes_one _ refl refl (λ value passes. text_fits (is_text refl refl refl refl)),
   (
     takes_one _ refl refl (λ value passes. text_fits (is_text refl refl refl refl)),
-    (inr (inr refl), tt),
+    (inr (inr (inl refl)), tt),
   ),
 )
 
@@ -516,9 +547,9 @@ record IsGiven (text : Option Text) (least most : ℕ) : Type 0 where
   between : WritesBetween least most text
 
 row_number : (least most : ℕ) → most < 2 ^ 32 → (row : Row) (value : Text)
-    → row.values ≡ value ∷ [] → IsRead least most row.reading value
+    (more : List Text) → row.values ≡ value ∷ more → IsRead least most row.reading value
     → IsGiven (row_text row) least most
-row_number least most bound row value values read =
+row_number least most bound row value more values read =
     let writes = is_number least most bound value read.1 in record {
       number = (Some writes.0, rw (values, read.0) writes.1.0);
       between = rw (values, read.0)
@@ -536,7 +567,7 @@ number_read option least most bound takes rows good =
         → IsGiven (option_and_then row_text found) least most
     go None is = record { number = (None, tt); between = λ number none. absurd none }
     go (Some row) is =
-        row_number least most bound row is.0.value is.0.values
+        row_number least most bound row is.0.value is.0.more is.0.values
         (takes row.id row.reading is.0.value is.1 is.0.fits)
 
 or_second : (first second : Bool) → second ≡ true → (first || second) ≡ true
@@ -546,11 +577,19 @@ or_second false second is = is
 rounds_read : (rows : List Row) → Each IsGood rows → IsNumber (one_of (codes "rounds") rows)
 rounds_read rows good = (number_read (codes "rounds") 0 4294967295 (omega arith)
     (λ id reading value is fits.
-    fits.number (ap (λ (b : Bool). b || bytes_eq id (codes "workers")) is)) rows good).number
+    fits.number (ap (λ (b : Bool). b || (bytes_eq id (codes "workers")
+    || bytes_eq id (codes "depth"))) is)) rows good).number
 
 workers_read : (rows : List Row) → Each IsGood rows → IsNumber (one_of (codes "workers") rows)
 workers_read rows good = (number_read (codes "workers") 0 4294967295 (omega arith)
-    (λ id reading value is fits. fits.number (or_second (bytes_eq id (codes "rounds")) _ is))
+    (λ id reading value is fits. fits.number (or_second (bytes_eq id (codes "rounds")) _
+    (ap (λ (b : Bool). b || bytes_eq id (codes "depth")) is)))
+    rows good).number
+
+depth_read : (rows : List Row) → Each IsGood rows → IsNumber (one_of (codes "depth") rows)
+depth_read rows good = (number_read (codes "depth") 0 4294967295 (omega arith)
+    (λ id reading value is fits. fits.number (or_second (bytes_eq id (codes "rounds")) _
+    (or_second (bytes_eq id (codes "workers")) _ is)))
     rows good).number
 
 sharing_read : (rows : List Row) → Each IsGood rows → HasSharing rows
@@ -697,7 +736,13 @@ graphs words none =
       name = codes "graph";
       rows = rows;
       is = refl;
-      known = inr (inr (inr (inr (refl, sharing_read rows good))));
+      known = inr (inr (inr (inr (
+        refl,
+        record {
+          sharing = sharing_read rows good;
+          depth = depth_read rows good;
+        },
+      ))));
       file = given_file rows good (file_given (is_given (codes "FILE") rows) faultless.checks);
     }
 

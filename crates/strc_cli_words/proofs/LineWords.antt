@@ -1,20 +1,26 @@
 -- What the reading of a line's matches has found.
 use Rattle.std.proofs.Common.{◌≡◌, ◌∙◌, ◌^◌, ◌<◌, ℕ, Bool, true, false, refl, sym, ap, subst}
-use Rattle.std.proofs.Common.{List, Option, Some, None, Result, Ok, Err, is_some, codes, inl, inr}
-use Rattle.std.specs.Prelude.{option_map, unwrap_or}
+use Rattle.std.proofs.Common.{◌≢◌, ◌==◌, [], ◌∷◌, length, arith, List, Option, Some, None, Result, Ok, Err, is_some, codes, inl, inr}
+use Rattle.std.specs.Prelude.{is_none, option_map, unwrap_or}
 use Rattle.std.specs.Str.Parse.{ExplainsUnsignedError, HasUnsignedDigitsIfOk, ParsesBool}
 use Rattle.std.specs.Str.Parse.{ParsesUnsigned}
 use Rattle.std.specs.declared.num.ParseIntError.{ParseIntError}
 use Rattle.std.specs.declared.str.ParseBoolError.{ParseBoolError}
 use Rattle.std.specs.Box.{box_value}
 use Rattle.std.specs.Str.{bytes_eq}
-use Rattle.std.proofs.lemmas.Bool.{true≢false}
+use Rattle.std.proofs.lemmas.Bool.{ne_eqb, true≢false}
 use Rattle.clap.specs.Matches.{ReadsOne, TriesOne, found_of, subcommand_name_of}
 use Rattle.clap.specs.Simple.{subcommand_rows_of}
 use Rattle.clap.specs.declared.parser.matches.ArgMatches.{ArgMatches}
 use Rattle.clap.specs.declared.parser.matches.ArgMatches.TheViews.{out-ArgMatches, out-SubCommand}
-use Rattle.clap.specs.Walk.{Row, Text, first_of, rows_of}
-use Rattle.strc_cli_words.specs.Lines.{HasNumbers, HasSharing, IsCommand, IsFlagOf, IsKnown}
+use Rattle.clap.specs.Walk.{Row, Text, all_of, first_of, one_of, rows_of}
+use Rattle.strc_cli_words.specs.declared.line.LineFault.{LineFault}
+use Rattle.strc_cli_words.specs.declared.line.LineFault.TheVariants as fault
+use Rattle.std.specs.List.{list_any}
+use Rattle.strc_cli_words.specs.Outs.{AreBadOuts, IsNoOut, out_of}
+use Rattle.strc_cli_words.specs.Lines.{IsBadCommand, IsBadLine}
+use Rattle.strc_cli_words.specs.Lines.{HasDrawing, HasNumbers, HasSort, IsCommand, IsFlagOf}
+use Rattle.strc_cli_words.specs.Lines.{IsFormat, IsKnown}
 use Rattle.strc_cli_words.specs.Lines.{IsNumberOf, IsNumberOr}
 
 some_same : {A : Type 0} (one other : A) → Some one ≡ Some other → one ≡ other
@@ -76,13 +82,13 @@ pub not_check : (name : Text) → name ≡ codes "graph" → name ≡ codes "che
 not_check name graph check = true≢false
     (sym (ap (λ (text : Text). bytes_eq text (codes "check")) (sym graph ∙ check)))
 
-pub no_sharing : (name : Text) (rows : List Row) → name ≡ codes "graph" → (HasSharing rows → ⊥)
+pub no_drawing : (name : Text) (rows : List Row) → name ≡ codes "graph" → (HasDrawing rows → ⊥)
     → IsKnown name rows → ⊥
-no_sharing name rows graph none (inl (is, numbers)) = cc
-no_sharing name rows graph none (inr (inl is)) = not_check name graph is
-no_sharing name rows graph none (inr (inr (inl is))) = cc
-no_sharing name rows graph none (inr (inr (inr (inl is)))) = cc
-no_sharing name rows graph none (inr (inr (inr (inr (is, sharing))))) = none sharing
+no_drawing name rows graph none (inl (is, numbers)) = cc
+no_drawing name rows graph none (inr (inl is)) = not_check name graph is
+no_drawing name rows graph none (inr (inr (inl is))) = cc
+no_drawing name rows graph none (inr (inr (inr (inl is)))) = cc
+no_drawing name rows graph none (inr (inr (inr (inr (is, drawing))))) = none drawing
 
 -- a number that is given, or the one in its place
 pub number_or : (absent : ℕ) (text : Option Text) (given : Option ℕ) → IsNumberOf text given
@@ -138,3 +144,77 @@ flag_set (Some text) (Some false) none some = (
 )
 flag_set (Some text) None none some =
     ((λ is. cc), λ is. absurd ((some text refl).1.0 (some_same _ _ is)))
+
+-- what is no command makes no line
+pub bad_command : (fault : LineFault) (met : Option (Text × List Row)) (name : Text)
+    (rows : List Row) → met ≡ Some (name, rows) → IsBadCommand fault name rows
+    → IsBadLine fault met
+bad_command fault.Words met name rows is bad = not_known met name rows is bad
+bad_command fault.Memory met name rows is bad = absurd bad
+bad_command fault.BadSort met name rows is bad =
+    record { name = name; rows = rows; is = is; bad = bad }
+bad_command fault.BadFormat met name rows is bad = absurd bad
+bad_command fault.BadOut met name rows is bad = absurd bad
+bad_command fault.TapeTwice met name rows is bad = absurd bad
+bad_command fault.LiveOut met name rows is bad = absurd bad
+
+-- a fault of the numbers or of the sorting of what has a name is one of its command
+pub bad_words : (reported : LineFault) (name : Text) (rows : List Row) → reported ≡ fault.Words
+    → (IsKnown name rows → ⊥) → IsBadCommand reported name rows
+bad_words reported name rows is none =
+    subst (λ (f : LineFault). IsBadCommand f name rows) (sym is) none
+
+pub bad_sort : (reported : LineFault) (name : Text) (rows : List Row) → reported ≡ fault.BadSort
+    → (HasSort rows → ⊥) → IsBadCommand reported name rows
+bad_sort reported name rows is none =
+    subst (λ (f : LineFault). IsBadCommand f name rows) (sym is) none
+
+-- a word after `--format` that is no form of messages makes no line
+pub bad_format : (reported : LineFault) (met : Option (Text × List Row)) (name : Text)
+    (rows : List Row) → met ≡ Some (name, rows) → reported ≡ fault.BadFormat
+    → (IsFormat (first_of (codes "format") rows) → ⊥) → IsBadLine reported met
+bad_format reported met name rows is format none =
+    subst (λ (f : LineFault). IsBadLine f met) (sym format)
+    (record { name = name; rows = rows; is = is; bad = none })
+
+-- words after `--out` that are wrong make no line
+pub bad_line : (fault : LineFault) (met : Option (Text × List Row)) (name : Text)
+    (rows : List Row) (live : Bool) → met ≡ Some (name, rows)
+    → IsFlagOf (one_of (codes "live") rows) live
+    → AreBadOuts fault live (all_of (codes "out") rows) → IsBadLine fault met
+bad_line fault.Words met name rows live is flag bad = absurd bad
+bad_line fault.Memory met name rows live is flag bad = tt
+bad_line fault.BadSort met name rows live is flag bad = absurd bad
+bad_line fault.BadFormat met name rows live is flag bad = absurd bad
+bad_line fault.BadOut met name rows live is flag bad =
+    record { name = name; rows = rows; is = is; live = live; flag = flag; bad = bad }
+bad_line fault.TapeTwice met name rows live is flag bad =
+    record { name = name; rows = rows; is = is; live = live; flag = flag; bad = bad }
+bad_line fault.LiveOut met name rows live is flag bad =
+    record { name = name; rows = rows; is = is; live = live; flag = flag; bad = bad }
+
+-- a word that isn't NAME=FILE makes them wrong
+pub bad_word : (fault : LineFault) (live : Bool) (words : List Text) (word : Text)
+    → IsNoOut fault word
+    → (out_of word ≡ None → list_any (λ it. is_none (out_of it)) words ≡ true)
+    → AreBadOuts fault live (Some words)
+bad_word fault.BadOut live words word none any = any none
+bad_word fault.Memory live words word none any = tt
+bad_word fault.Words live words word none any = absurd none
+bad_word fault.BadSort live words word none any = absurd none
+bad_word fault.BadFormat live words word none any = absurd none
+bad_word fault.TapeTwice live words word none any = absurd none
+bad_word fault.LiveOut live words word none any = absurd none
+
+-- whether a list of this length is empty
+pub not_empty : {X : Type 0} (xs : List X) (count : ℕ) (none : Bool) → count ≡ length xs
+    → none ≡ (count == 0) → none ≡ false → xs ≢ []
+not_empty [] count none long is not_so =
+    λ e. true≢false (sym (is ∙ ap (λ (n : ℕ). n == 0) long) ∙ not_so)
+not_empty (x ∷ xs) count none long is not_so = λ e. cc
+
+pub are_empty : {X : Type 0} (xs : List X) (count : ℕ) (none : Bool) → count ≡ length xs
+    → none ≡ (count == 0) → none ≡ true → xs ≡ []
+are_empty [] count none long is so = refl
+are_empty (x ∷ xs) count none long is so =
+    absurd (true≢false (sym so ∙ (is ∙ (ap (λ (n : ℕ). n == 0) long ∙ ne_eqb _ _ (λ e. omega arith)))))

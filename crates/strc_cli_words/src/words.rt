@@ -1,23 +1,31 @@
 // The words of the command line.
 
 ghost use Rattle.std.specs.Prelude.{◌≡◌, ◌≢◌, ◌<◌, ◌≤◌, IfErr, IfOk, Ok, Err, [], false, length};
-ghost use Rattle.std.specs.Prelude.{◌++◌, ◌∷◌, IsOkAnd, map};
+ghost use Rattle.std.specs.Prelude.{◌++◌, ◌∷◌, ◌⊎◌, Bool, IsOkAnd, Some, map};
+ghost use Rattle.std.specs.List.{list_any};
+ghost use Rattle.std.specs.Str.{bytes_eq};
 ghost use Rattle.std.specs.Prelude.{codes, option_map, string_bytes};
 ghost use Rattle.clap.specs.Words.{app_of, found_of, kind_of, new_app, rows_of, rule_of};
 ghost use Rattle.clap.specs.Words.{subcommand_rows_of, with_rule};
-ghost use Rattle.clap.specs.Walk.{one_of, texts};
+ghost use Rattle.clap.specs.Walk.{all_of, one_of, texts};
 ghost use Rattle.clap.specs.declared.builder.command.Command.TheViews.{out-Command as fields_of};
-ghost use Rattle.strc_cli_words.specs.Lines.{AsksFor, HasNumbers, HasSharing, IsCommand, batch_app};
+ghost use Rattle.strc_cli_words.specs.Lines.{AsksFor, HasDrawing, HasNumbers, HasSort, batch_app};
+ghost use Rattle.strc_cli_words.specs.Lines.{IsBadCommand, IsBadLine, IsDefault, IsRefusedFor};
+ghost use Rattle.strc_cli_words.specs.Lines.{IsSort, IsSortOf, depth_rule, sort_rule, times_rule};
 ghost use Rattle.strc_cli_words.specs.Lines.{IsCommandOf, IsFlagOf, IsKnown, IsLineIn, IsNumber};
-ghost use Rattle.strc_cli_words.specs.Lines.{IsNumberOf, check_app, default_line, fault_by, faults};
+ghost use Rattle.strc_cli_words.specs.Lines.{IsFormat, IsFormatOf, format_rule};
+ghost use Rattle.strc_cli_words.specs.Lines.{IsNumberOf, check_app, fault_by};
 ghost use Rattle.strc_cli_words.specs.Lines.{file_rule, fuse_rule, graph_app, long_rule, main_of};
 ghost use Rattle.strc_cli_words.specs.Lines.{main_rule};
 ghost use Rattle.strc_cli_words.specs.Lines.{number_rule, plan_app, rounds_app, rounds_rule};
 ghost use Rattle.strc_cli_words.specs.Lines.{batch_rule, emit_app, run_app};
 ghost use Rattle.strc_cli_words.specs.Lines.{lint_rule, live_rule, stats_rule, strc_app, ways_rule};
-ghost use Rattle.strc_cli_words.specs.Lines.{with_sharing, workers_rule};
+ghost use Rattle.strc_cli_words.specs.Lines.{out_rule, with_sharing, workers_rule};
+ghost use Rattle.strc_cli_words.specs.Outs as spec;
+ghost use Rattle.strc_cli_words.specs.Outs.{AreBadOuts, AreOuts, AreOutsFor, IsNoOut, names_of};
+ghost use Rattle.strc_cli_words.specs.Outs.{out_of, shares_name};
 
-use crate::line::{Command, Line, LineFault};
+use crate::line::{Command, Format, Line, LineFault, Out, SortKey};
 use clap::error::ErrorKind;
 use clap::{Arg, ArgAction, ArgMatches, Error, value_parser};
 use std::alloc::{AllocError, Global};
@@ -51,9 +59,10 @@ pub const BATCH_LIMIT: u32 = 4_096;
 /// With no words after the name the text comes from standard input and runs for 5 rounds.
 /// Words that the program doesn't know, or a number past its bounds, are `Words`.
 pub fn command<'a>(alloc: Global, words: &'a [&'a str]) -> Result<Line, LineFault>
-    ensures bare { length words.now ≤ 1 → result ≡ Ok default_line }
+    ensures bare { length words.now ≤ 1 → IsOkAnd result IsDefault }
     ensures answered { 1 < length words.now → IfOk result (AsksFor (texts words.now)) }
-    ensures refused { result ≡ Err LineFault.Words → faults (texts words.now) ≢ [] }
+    ensures refused { 1 < length words.now
+        → IfErr result (λ fault. IsRefusedFor fault (texts words.now)) }
 {
     if words.len() <= 1 {
         return Ok(Line {
@@ -69,6 +78,9 @@ pub fn command<'a>(alloc: Global, words: &'a [&'a str]) -> Result<Line, LineFaul
             },
             live: false,
             lint: false,
+            format: Format::Text,
+            outs: Vec::new(alloc),
+            times: None,
         });
     }
     let Ok(parser) = parser(alloc) else {
@@ -142,7 +154,7 @@ fn with_last<T: Drop>(
 }
 
 // The words `run FILE [--rounds N] [--workers N] [--ways N] [--fuse N] [--batch N] [--stats]
-// [--live] [--main NAME]`.
+// [--live] [--out NAME=FILE].. [--main NAME]`.
 fn run_command<'a>(alloc: Global) -> Result<clap::Command<'a>, AllocError>
     ensures app { IfOk result (λ run. app_of run ≡ run_app) }
     ensures local { IfOk result (λ run. (fields_of run).has_globals ≡ false) }
@@ -150,6 +162,7 @@ fn run_command<'a>(alloc: Global) -> Result<clap::Command<'a>, AllocError>
     batch_command(alloc)?
         .arg(stats_option(alloc))?
         .arg(live_option(alloc))?
+        .arg(out_option(alloc))?
         .arg(main_option(alloc))
 }
 
@@ -185,17 +198,18 @@ fn with_sharing_options<'a>(
         .arg(fuse_option(alloc))
 }
 
-// The words `check FILE [--lint] [--main NAME]`.
+// The words `check FILE [--lint] [--format FORMAT] [--main NAME]`.
 fn check_command<'a>(alloc: Global) -> Result<clap::Command<'a>, AllocError>
     ensures app { IfOk result (λ check. app_of check ≡ check_app) }
     ensures local { IfOk result (λ check. (fields_of check).has_globals ≡ false) }
 {
     file_command(alloc, "check", "Checks a StreamIt program")?
         .arg(lint_option(alloc))?
+        .arg(format_option(alloc))?
         .arg(main_option(alloc))
 }
 
-// The words `plan FILE [--long] [--main NAME]`.
+// The words `plan FILE [--long] [--sort KEY] [--main NAME]`.
 fn plan_command<'a>(alloc: Global) -> Result<clap::Command<'a>, AllocError>
     ensures app { IfOk result (λ plan. app_of plan ≡ plan_app) }
     ensures local { IfOk result (λ plan. (fields_of plan).has_globals ≡ false) }
@@ -203,6 +217,7 @@ fn plan_command<'a>(alloc: Global) -> Result<clap::Command<'a>, AllocError>
     let about = "Tells how often each node of a StreamIt program fires";
     file_command(alloc, "plan", about)?
         .arg(long_option(alloc))?
+        .arg(sort_option(alloc))?
         .arg(main_option(alloc))
 }
 
@@ -214,14 +229,18 @@ fn emit_command<'a>(alloc: Global) -> Result<clap::Command<'a>, AllocError>
     main_command(alloc, "emit", "Writes a StreamIt program as C")
 }
 
-// The words `graph FILE [--workers N] [--ways N] [--fuse N] [--main NAME]`.
+// The words `graph FILE [--workers N] [--ways N] [--fuse N] [--depth N] [--times FILE]
+// [--main NAME]`.
 fn graph_command<'a>(alloc: Global) -> Result<clap::Command<'a>, AllocError>
     ensures app { IfOk result (λ graph. app_of graph ≡ graph_app) }
     ensures local { IfOk result (λ graph. (fields_of graph).has_globals ≡ false) }
 {
     let about = "Draws the flat graph of a StreamIt program, for Graphviz";
     let graph = file_command(alloc, "graph", about)?;
-    with_sharing_options(alloc, graph)?.arg(main_option(alloc))
+    with_sharing_options(alloc, graph)?
+        .arg(depth_option(alloc))?
+        .arg(times_option(alloc))?
+        .arg(main_option(alloc))
 }
 
 // The words `NAME FILE [--main NAME]`.
@@ -322,6 +341,17 @@ fn live_option<'a>(alloc: Global) -> Arg<'a>
         .help("Run each round, and write its words, as soon as its input has come")
 }
 
+fn out_option<'a>(alloc: Global) -> Arg<'a>
+    ensures rule { rule_of result ≡ out_rule }
+    ensures local { result.global ≡ false }
+{
+    Arg::new(alloc, "out")
+        .long("out")
+        .value_name("NAME=FILE")
+        .action(ArgAction::Append)
+        .help("Write the words of this tape to a file; may be given for several tapes")
+}
+
 fn lint_option<'a>(alloc: Global) -> Arg<'a>
     ensures rule { rule_of result ≡ lint_rule }
     ensures local { result.global ≡ false }
@@ -332,6 +362,16 @@ fn lint_option<'a>(alloc: Global) -> Arg<'a>
         .help("Tell what may be mistakes in a program that is accepted")
 }
 
+fn format_option<'a>(alloc: Global) -> Arg<'a>
+    ensures rule { rule_of result ≡ format_rule }
+    ensures local { result.global ≡ false }
+{
+    Arg::new(alloc, "format")
+        .long("format")
+        .value_name("FORMAT")
+        .help("How to tell what is wrong: `text` for a person, `json` for a program")
+}
+
 fn long_option<'a>(alloc: Global) -> Arg<'a>
     ensures rule { rule_of result ≡ long_rule }
     ensures local { result.global ≡ false }
@@ -339,7 +379,35 @@ fn long_option<'a>(alloc: Global) -> Arg<'a>
     Arg::new(alloc, "long")
         .long("long")
         .action(ArgAction::SetTrue)
-        .help("Tell the work of each node too, as it is estimated by the text")
+        .help("Tell the path, the estimated work and the buffers of each node too")
+}
+
+fn sort_option<'a>(alloc: Global) -> Arg<'a>
+    ensures rule { rule_of result ≡ sort_rule }
+    ensures local { result.global ≡ false }
+{
+    Arg::new(alloc, "sort").long("sort").value_name("KEY").help(
+        "Tell that of the nodes with the most work, or the largest size, first",
+    )
+}
+
+fn depth_option<'a>(alloc: Global) -> Arg<'a>
+    ensures rule { rule_of result ≡ depth_rule }
+    ensures local { result.global ≡ false }
+{
+    number_option(alloc, "depth").help(
+        "Draw streams in N others as single boxes (not with --workers, --ways or --fuse)",
+    )
+}
+
+fn times_option<'a>(alloc: Global) -> Arg<'a>
+    ensures rule { rule_of result ≡ times_rule }
+    ensures local { result.global ≡ false }
+{
+    Arg::new(alloc, "times")
+        .long("times")
+        .value_name("FILE")
+        .help("Colour nodes by their share of the time, as `run --stats` wrote it into FILE")
 }
 
 fn number_option<'a>(alloc: Global, name: &'a str) -> Arg<'a>
@@ -365,8 +433,8 @@ fn main_option<'a>(alloc: Global) -> Arg<'a>
 // The line that the matches of the words are.
 fn line_of(alloc: Global, matches: &ArgMatches) -> Result<Line, LineFault>
     ensures answered { IfOk result (IsLineIn (subcommand_rows_of matches.now)) }
-    ensures refused { result ≡ Err LineFault.Words
-        → IsCommand (subcommand_rows_of matches.now) → ⊥ }
+    ensures refused { IfErr result (λ fault.
+        IsBadLine fault (subcommand_rows_of matches.now)) }
 {
     let Some((name, found)) = matches.subcommand() else {
         return Err(LineFault::Words);
@@ -376,32 +444,134 @@ fn line_of(alloc: Global, matches: &ArgMatches) -> Result<Line, LineFault>
     };
     let file = owned(alloc, file)?;
     let main = owned_if_given(alloc, found.get_str("main"))?;
-    match command_of(name, found, main) {
-        Ok(command) => Ok(Line {
+    let times = owned_if_given(alloc, found.get_str("times"))?;
+    let command = match command_of(alloc, name, found, main) {
+        Ok(command) => command,
+        Err(fault) => return Err(fault),
+    };
+    let format = match format_of(found.get_str("format")) {
+        Ok(format) => format,
+        Err(fault) => return Err(fault),
+    };
+    let live = is_set(found, "live");
+    match outs_of(alloc, found, live) {
+        Ok(outs) => Ok(Line {
             file: Some(file),
             command,
-            live: is_set(found, "live"),
+            live,
             lint: is_set(found, "lint"),
+            format,
+            outs,
+            times,
         }),
         Err(fault) => Err(fault),
     }
 }
 
+// The tapes that go to files, by what was found for the options of a run that is live or not.
+fn outs_of(alloc: Global, found: &ArgMatches, live: bool) -> Result<Vec<Out>, LineFault>
+    ensures answered { IfOk result (λ outs. AreOutsFor live
+        (all_of (codes "out") (rows_of (found_of found.now))) outs.items) }
+    ensures refused { IfErr result (λ fault. AreBadOuts fault live
+        (all_of (codes "out") (rows_of (found_of found.now)))) }
+{
+    let Some(words) = found.get_strs("out") else {
+        return Ok(Vec::new(alloc));
+    };
+    let outs = match outs_in(alloc, words) {
+        Ok(outs) => outs,
+        Err(fault) => return Err(fault),
+    };
+    if has_twice(&outs) {
+        return Err(LineFault::TapeTwice);
+    }
+    if live && !outs.is_empty() {
+        return Err(LineFault::LiveOut);
+    }
+    Ok(outs)
+}
+
+// The tape and the file of each word NAME=FILE.
+fn outs_in(alloc: Global, words: &[&str]) -> Result<Vec<Out>, LineFault>
+    ensures answered { IfOk result (λ outs. AreOuts (texts words.now) outs.items) }
+    ensures refused { (live : Bool) → IfErr result (λ fault.
+        AreBadOuts fault live (Some (texts words.now))) }
+{
+    let mut outs = Vec::new(alloc);
+    for word in words {
+        match out_in(alloc, word) {
+            Ok(out) => {
+                if outs.push(out).is_err() {
+                    return Err(LineFault::Memory);
+                }
+            }
+            Err(fault) => return Err(fault),
+        }
+    }
+    Ok(outs)
+}
+
+// The tape and the file of a word NAME=FILE.
+fn out_in(alloc: Global, word: &str) -> Result<Out, LineFault>
+    ensures answered { IfOk result (λ out. out_of word.now ≡ Some (names_of out)) }
+    ensures refused { IfErr result (λ fault. IsNoOut fault word.now) }
+{
+    let Some((tape, file)) = word.split_once('=') else {
+        return Err(LineFault::BadOut);
+    };
+    if tape.is_empty() || file.is_empty() {
+        return Err(LineFault::BadOut);
+    }
+    Ok(Out {
+        tape: owned(alloc, tape)?,
+        file: owned(alloc, file)?,
+    })
+}
+
+// Whether two of them name one tape, or one file.
+fn has_twice(outs: &[Out]) -> bool
+    ensures { result ≡ spec.has_twice (map names_of outs.now) }
+{
+    for place in 0..outs.len() {
+        let Out { tape, file } = &outs[place];
+        if is_named(&outs[place + 1..], tape.as_str(), file.as_str()) {
+            return true;
+        }
+    }
+    false
+}
+
+// Whether one of them names this tape, or this file.
+fn is_named(outs: &[Out], tape: &str, file: &str) -> bool
+    ensures { result ≡ list_any (λ names. shares_name names (tape.now, file.now))
+        (map names_of outs.now) }
+{
+    for out in outs {
+        if out.tape.as_str() == tape || out.file.as_str() == file {
+            return true;
+        }
+    }
+    false
+}
+
 // The command of this name, with what was found for its options.
-fn command_of(name: &str, found: &ArgMatches, main: Option<String>) -> Result<Command, LineFault>
+fn command_of(
+    alloc: Global,
+    name: &str,
+    found: &ArgMatches,
+    main: Option<String>,
+) -> Result<Command, LineFault>
     ensures answered { IfOk result (λ command. IsCommandOf name.now (rows_of (found_of found.now))
         command × (main_of command ≡ option_map string_bytes main)) }
-    ensures refused { IfErr result (λ fault. IsKnown name.now (rows_of (found_of found.now)) → ⊥) }
+    ensures refused { IfErr result (λ fault. IsBadCommand fault name.now
+        (rows_of (found_of found.now))) }
 {
     match name {
         "run" => run_of(found, main),
         "check" => Ok(Command::Check { main }),
-        "plan" => Ok(Command::Plan {
-            long: is_set(found, "long"),
-            main,
-        }),
+        "plan" => plan_of(found, main),
         "emit" => Ok(Command::Emit { main }),
-        "graph" => graph_of(found, main),
+        "graph" => graph_of(alloc, found, main),
         _ => Err(LineFault::Words),
     }
 }
@@ -412,6 +582,7 @@ fn run_of(found: &ArgMatches, main: Option<String>) -> Result<Command, LineFault
         (rows_of (found_of found.now)) command
         × (main_of command ≡ option_map string_bytes main)) }
     ensures refused { IfErr result (λ fault. HasNumbers (rows_of (found_of found.now)) → ⊥) }
+    ensures words { IfErr result (λ fault. fault ≡ LineFault.Words) }
 {
     let rounds = number_of(found, "rounds")?;
     let workers = number_of(found, "workers")?.unwrap_or(BARE_WORKERS);
@@ -430,20 +601,69 @@ fn run_of(found: &ArgMatches, main: Option<String>) -> Result<Command, LineFault
     })
 }
 
+// The command `plan`, with what was found for its options.
+fn plan_of(found: &ArgMatches, main: Option<String>) -> Result<Command, LineFault>
+    ensures answered { IfOk result (λ command. IsCommandOf (codes "plan")
+        (rows_of (found_of found.now)) command
+        × (main_of command ≡ option_map string_bytes main)) }
+    ensures refused { IfErr result (λ fault. HasSort (rows_of (found_of found.now)) → ⊥) }
+    ensures sort { IfErr result (λ fault. fault ≡ LineFault.BadSort) }
+{
+    match sort_of(found.get_str("sort")) {
+        Ok(sort) => Ok(Command::Plan {
+            long: is_set(found, "long"),
+            sort,
+            main,
+        }),
+        Err(fault) => Err(fault),
+    }
+}
+
+// What a word says to sort by, where one is given.
+fn sort_of(word: Option<&str>) -> Result<Option<SortKey>, LineFault>
+    ensures answered { IfOk result (IsSortOf (option_map (λ w. w.now) word.entry)) }
+    ensures refused { IfErr result (λ fault. IsSort (option_map (λ w. w.now) word.entry) → ⊥) }
+    ensures sort { IfErr result (λ fault. fault ≡ LineFault.BadSort) }
+{
+    match word {
+        None => Ok(None),
+        Some("work") => Ok(Some(SortKey::Work)),
+        Some("size") => Ok(Some(SortKey::Size)),
+        Some(_) => Err(LineFault::BadSort),
+    }
+}
+
+// The form of messages that a word names; that for a person where none is given.
+fn format_of(word: Option<&str>) -> Result<Format, LineFault>
+    ensures answered { IfOk result (IsFormatOf (option_map (λ w. w.now) word.entry)) }
+    ensures refused { IfErr result (λ fault. IsFormat (option_map (λ w. w.now) word.entry) → ⊥) }
+    ensures format { IfErr result (λ fault. fault ≡ LineFault.BadFormat) }
+{
+    match word {
+        None | Some("text") => Ok(Format::Text),
+        Some("json") => Ok(Format::Json),
+        Some(_) => Err(LineFault::BadFormat),
+    }
+}
+
 // The command `graph`, with what was found for its options.
-fn graph_of(found: &ArgMatches, main: Option<String>) -> Result<Command, LineFault>
+fn graph_of(alloc: Global, found: &ArgMatches, main: Option<String>) -> Result<Command, LineFault>
     ensures answered { IfOk result (λ command. IsCommandOf (codes "graph")
         (rows_of (found_of found.now)) command
         × (main_of command ≡ option_map string_bytes main)) }
-    ensures refused { IfErr result (λ fault. HasSharing (rows_of (found_of found.now)) → ⊥) }
+    ensures refused { IfErr result (λ fault. HasDrawing (rows_of (found_of found.now)) → ⊥) }
+    ensures words { IfErr result (λ fault. fault ≡ LineFault.Words) }
 {
     let workers = number_of(found, "workers")?;
     let ways = number_of(found, "ways")?;
     let fuse = number_of(found, "fuse")?;
+    let depth = number_of(found, "depth")?;
     Ok(Command::Graph {
         workers,
         ways,
         fuse,
+        depth,
+        times: Vec::new(alloc),
         main,
     })
 }
@@ -453,6 +673,7 @@ fn number_of(found: &ArgMatches, option: &str) -> Result<Option<u32>, LineFault>
     ensures answered { IfOk result (IsNumberOf (one_of option.now (rows_of (found_of found.now)))) }
     ensures refused { IfErr result (λ fault.
         IsNumber (one_of option.now (rows_of (found_of found.now))) → ⊥) }
+    ensures words { IfErr result (λ fault. fault ≡ LineFault.Words) }
 {
     match found.try_get_one::<u32>(option) {
         Ok(number) => Ok(number),
@@ -489,7 +710,8 @@ fn owned(alloc: Global, text: &str) -> Result<String, LineFault>
 }
 
 fn fault_of(error: &Error) -> LineFault
-    ensures { result ≡ fault_by (kind_of error.now) }
+    ensures kind { result ≡ fault_by (kind_of error.now) }
+    ensures two { (result ≡ LineFault.Words) ⊎ (result ≡ LineFault.Memory) }
 {
     match error.kind() {
         ErrorKind::OutOfMemory => LineFault::Memory,

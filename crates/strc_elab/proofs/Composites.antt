@@ -60,6 +60,21 @@ splitjoin_done declaration written (first ∷ rest) split join p s j splitter jo
         (Ok (elaborated_as (record { input = i; output = o })
         (instances.SplitJoin splitter (in_a_row p.children) joiner) p))
 
+-- whose `split` has weights that aren't allowed
+pub splits_refused : (declaration : ℕ) (written : Option StreamType) (types : List StreamType)
+    (split : Option weights.Split) (join : Option (List ℤ)) (p : spec.Progress) (s : weights.Split)
+    (j : List ℤ) (e : ElabError) → (length types ≡ 0 → ⊥) → split ≡ Some s → join ≡ Some j
+    → IsRefusal (split_dealt declaration s (inputs_in p.types)) e
+    → IsRefusal (splitjoin_assembly declaration written types split join p) e
+splits_refused declaration written [] split join p s j e some split_is join_is h =
+    absurd (some refl)
+splits_refused declaration written (first ∷ rest) split join p s j e some split_is join_is h =
+    refused_same (splitjoin_assembly declaration written (first ∷ rest) (Some s) (Some j) p)
+    (splitjoin_assembly declaration written (first ∷ rest) split join p) e
+    (ap (λ x. splitjoin_assembly declaration written (first ∷ rest) x join p) split_is
+    ∙ ap (λ x. splitjoin_assembly declaration written (first ∷ rest) (Some s) x p) join_is)
+    (first_refused (split_dealt declaration s (inputs_in p.types)) _ e h)
+
 -- whose `join` has weights that aren't allowed
 pub joins_refused : (declaration : ℕ) (written : Option StreamType) (types : List StreamType)
     (split : Option weights.Split) (join : Option (List ℤ)) (p : spec.Progress) (s : weights.Split)

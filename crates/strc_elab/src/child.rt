@@ -25,6 +25,7 @@ use strc_elab_statements::captures::captures;
 use strc_elab_statements::error::{ElabError, ElabErrorKind};
 use strc_elab_statements::store::Store;
 use strc_elab_statements::types::passes_items;
+use strc_elab_statements::within::added_by;
 use strc_elab_stream::added::Added;
 use strc_elab_stream::stream::Stream;
 use strc_lex_names::memory::NoMemory;
@@ -272,8 +273,10 @@ impl<F: Fn(Task) -> Result<Elaborated, PlacedError>> Body<'_, F> {
             text,
             totals: progress.totals(),
         });
-        let own = place_of(name);
-        let elaborated = given_below(in_own_text(own, answer), &mut progress.trace.here)?;
+        let elaborated = given_below(
+            in_own_text(self.task.alloc, name, constants, answer),
+            &mut progress.trace.here,
+        )?;
         progress.store.turns = elaborated.totals.turns;
         progress.filters = elaborated.totals.filters;
         let added = added_by(self.task.alloc, progress.trace.here, name, constants)?;
@@ -367,45 +370,6 @@ fn given_below(
             Err(refused.error)
         }
     }
-}
-
-/// Where a stream's name is written, if it has one.
-fn place_of(name: Option<&Name>) -> Option<Span> {
-    match name {
-        Some(name) => name.place(),
-        None => None,
-    }
-}
-
-/// How this statement adds a stream: by its name, where it has one, and its arguments.
-fn added_by(
-    alloc: Global,
-    here: Option<Span>,
-    name: Option<&Name>,
-    constants: &Constants,
-) -> Result<Added, NoMemory> {
-    let Some(name) = name else {
-        return Ok(Added {
-            place: here,
-            name: None,
-            arguments: Vec::new(alloc),
-        });
-    };
-    Ok(Added {
-        place: here,
-        name: Some(name.copy()?),
-        arguments: values_of(alloc, constants)?,
-    })
-}
-
-/// The values of constants, in the order in which they were pushed.
-fn values_of(alloc: Global, constants: &Constants) -> Result<Vec<i32>, NoMemory> {
-    let mut values = Vec::with_capacity(alloc, constants.len())?;
-    for number in 0..constants.len() {
-        let (_, value) = constants.at(number);
-        values.push(value)?;
-    }
-    Ok(values)
 }
 
 /// A stream, with how it is added.

@@ -9,10 +9,13 @@ ghost use Rattle.strc_elab_statements.specs.Texts as texts;
 
 use crate::placed_error::PlacedError;
 use crate::task::{Task, Text};
+use std::alloc::Global;
 use strc_elab_statements::error::ElabErrorKind;
 use strc_elab_statements::index::number_of;
+use strc_lex_names::name::Name;
 use strc_lex_names::place::Span;
 use strc_parse_tree::tree::{Decl, StreamTree, StreamType};
+use strc_work_meaning::constants::Constants;
 
 /// Whether a refusal is of what a stream's own text says, and not of the statement that adds it.
 fn is_own(kind: &ElabErrorKind) -> bool {
@@ -34,9 +37,12 @@ fn is_own(kind: &ElabErrorKind) -> bool {
 }
 
 /// An answer for a stream's text; where it is a refusal of what the text itself says, and neither
-/// it nor a statement has a place, at the name of its declaration.
+/// it nor a statement has a place, at the name of its declaration. The constants of a text with a
+/// name are its arguments, which a refusal within it knows.
 pub(crate) fn in_own_text<T>(
-    own: Option<Span>,
+    alloc: Global,
+    name: Option<&Name>,
+    constants: &Constants,
     answer: Result<T, PlacedError>,
 ) -> Result<T, PlacedError>
     ensures { result ≡ answer }
@@ -45,11 +51,20 @@ pub(crate) fn in_own_text<T>(
         Ok(value) => Ok(value),
         Err(refused) => {
             let is_here = refused.place.is_none() && is_own(refused.error.kind());
+            let own = if is_here { place_of(name) } else { None };
             Err(PlacedError {
-                error: refused.error.or_at(if is_here { own } else { None }),
+                error: refused.error.or_at(own).or_within(alloc, name, constants),
                 place: refused.place,
             })
         }
+    }
+}
+
+/// Where a stream's name is written, if it has one.
+fn place_of(name: Option<&Name>) -> Option<Span> {
+    match name {
+        Some(name) => name.place(),
+        None => None,
     }
 }
 

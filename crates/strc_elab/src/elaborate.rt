@@ -125,5 +125,5 @@ fn main_elaborated(
             filters: 0,
         },
     });
-    in_own_text(declaration.name.place(), answer)
+    in_own_text(alloc, Some(&declaration.name), &constants, answer)
 }

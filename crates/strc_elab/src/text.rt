@@ -58,7 +58,7 @@ fn started(alloc: Global, code: Code) -> Result<Code, ElabError>
 {
     let refused = match code.start(alloc) {
         Ok(_) => return Ok(code),
-        Err(StartError::ConstFault { cause }) => ElabError::fault(cause),
+        Err(StartError::ConstFault { cause }) => ElabError::at_start(cause),
         Err(StartError::NoMemory) => ElabError::from(ElabErrorKind::NoMemory),
     };
     drop(code);

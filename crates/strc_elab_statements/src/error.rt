@@ -3,23 +3,26 @@
 ghost use Rattle.std.specs.Prelude.{◌≡◌};
 ghost use Rattle.strc_elab_statements.specs.declared.error.ElabErrorKind.TheVariants as refused;
 
-use std::alloc::{AllocError, AllocFailed};
+use crate::within::Within;
+use std::alloc::{AllocError, AllocFailed, Global};
 use std::fmt;
 use std::marker::Model;
 use strc_lex_names::memory::NoMemory;
 use strc_lex_names::name::Name;
 use strc_lex_names::place::Span;
-use strc_work_meaning::fault::Cause;
+use strc_work_meaning::constants::Constants;
+use strc_work_meaning::fault::{Cause, LocatedCause};
 use strc_work_rules::name_text::spelled;
 use strc_work_rules::site::{Mismatch, Site};
 use thiserror::Error;
 
 /// Why a program has no stream, or a stream no graph: the first rule that is broken. Contracts see
-/// it as its kind, and nothing of its site.
+/// it as its kind, and nothing of its site and of the stream that it is in.
 #[derive(Drop)]
 pub struct ElabError {
     kind: ElabErrorKind,
     site: Site,
+    within: Within,
 }
 
 /// Which rule a program breaks. Declarations are numbered from 0.
@@ -100,6 +103,7 @@ impl From<ElabErrorKind> for ElabError {
         ElabError {
             kind,
             site: Site::unknown(),
+            within: Within::unknown(),
         }
     }
 }
@@ -109,7 +113,11 @@ impl ElabError {
     pub fn new(kind: ElabErrorKind, site: Site) -> ElabError
         ensures { result ≡ kind }
     {
-        ElabError { kind, site }
+        ElabError {
+            kind,
+            site,
+            within: Within::unknown(),
+        }
     }
 
     /// A rule on types, kinds and parts is broken in this declaration.
@@ -119,6 +127,7 @@ impl ElabError {
         ElabError {
             kind: ElabErrorKind::TypeMismatch { stream },
             site: Site::of(mismatch),
+            within: Within::unknown(),
         }
     }
 
@@ -129,6 +138,20 @@ impl ElabError {
         ElabError {
             kind: ElabErrorKind::ConstFault { cause },
             site: Site::unknown(),
+            within: Within::unknown(),
+        }
+    }
+
+    /// A filter faults at its start.
+    pub fn at_start(cause: LocatedCause) -> ElabError
+        ensures { result ≡ refused.ConstFault cause }
+    {
+        ElabError {
+            kind: ElabErrorKind::ConstFault {
+                cause: cause.cause(),
+            },
+            site: Site::trapped(cause.trapped()),
+            within: Within::unknown(),
         }
     }
 
@@ -136,9 +159,24 @@ impl ElabError {
     pub fn or_at(self, place: Option<Span>) -> ElabError
         ensures { result ≡ self }
     {
+        let ElabError { kind, site, within } = self;
         ElabError {
-            kind: self.kind,
-            site: self.site.or_at(place),
+            kind,
+            site: site.or_at(place),
+            within,
+        }
+    }
+
+    /// The same error; in the stream of this name, whose parameters are these constants, where no
+    /// stream was known.
+    pub fn or_within(self, alloc: Global, name: Option<&Name>, constants: &Constants) -> ElabError
+        ensures { result ≡ self }
+    {
+        let ElabError { kind, site, within } = self;
+        ElabError {
+            kind,
+            site,
+            within: within.or(Within::of(alloc, name, constants)),
         }
     }
 
@@ -153,7 +191,19 @@ impl ElabError {
     pub fn into_kind(self) -> ElabErrorKind
         ensures { result ≡ self }
     {
-        self.kind
+        self.into_parts().0
+    }
+
+    /// Which rule is broken, and in which stream.
+    pub fn into_parts(self) -> (ElabErrorKind, Within)
+        ensures { result.0 ≡ self }
+    {
+        let ElabError {
+            kind,
+            site: _,
+            within,
+        } = self;
+        (kind, within)
     }
 
     /// Where it is broken, as far as that is known.

@@ -22,4 +22,5 @@ pub mod store;
 pub mod types;
 pub mod variables;
 pub mod weights;
+pub mod within;
 pub mod written;

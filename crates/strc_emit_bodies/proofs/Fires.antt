@@ -1,5 +1,6 @@
 -- A firing of the functions that are written for a filter does what the filter's text means.
-use Rattle.std.proofs.Common.{◌≡◌, ℕ, suc, ◌<◌, max, ℤ, not, List, []}
+use Rattle.std.proofs.Common.{◌≡◌, ◌≢◌, ℕ, suc, ◌<◌, max, ℤ, false, not, List, [], Result, Ok, Err}
+use Rattle.std.specs.Result.{IfOk}
 use Rattle.std.proofs.Common.{◌∷◌, length, codes, Option, Some, None, refl, sym, ap, ap₂}
 use Rattle.std.proofs.Common.{subst, arith}
 use Rattle.std.specs.Prelude.{unwrap_or}
@@ -8,6 +9,7 @@ use Rattle.strc_parse_tree.specs.Tree as tree
 use Rattle.strc_parse_tree.specs.declared.tree.FilterTree.{FilterTree}
 use Rattle.strc_work_meaning.specs.declared.body.Body.{Body}
 use Rattle.strc_work_meaning.specs.declared.body.Body.TheVariants as body
+use Rattle.strc_work_meaning.specs.declared.fault.Cause.TheVariants as cause
 use Rattle.strc_work_meaning.specs.declared.fault.TheConstants.{CALL_LIMIT}
 use Rattle.strc_work_meaning.specs.Filters.{filter_of, body_rates}
 use Rattle.strc_work_meaning.specs.Scoping.{Scope}
@@ -31,9 +33,20 @@ use Rattle.strc_emit_firings.specs.Functions.{Unset, helper_functions, helpers_d
 use Rattle.strc_emit_firings.specs.Functions.{without_items}
 use Rattle.strc_emit_firings.specs.Firings.{Fires, FiringShows, WritesHelpers}
 use Rattle.strc_emit_firings.proofs.Firing.{firings_do_same}
+use Rattle.strc_rate.specs.Rates.{FilterRates, checked}
+use Rattle.strc_rate.specs.declared.rates.RateError.{RateError}
+use Rattle.strc_rate.specs.Kept.{run_of}
+use Rattle.strc_rate.specs.Ranges.{IsInRange, StaysInRange}
+use Rattle.strc_rate.proofs.Reaching.{in_plain}
+use Rattle.strc_rate.proofs.Firings.{firings_stay}
 use Rattle.strc_emit_bodies.specs.Spelling.{BodyFunction, routine_function}
 use Rattle.strc_emit_bodies.specs.Bodies.{written_functions, IsFunctionOf, IsKnownFilter, FiresIn}
 use Rattle.strc_emit_bodies.specs.Bodies.{FilterTextsFire}
+
+-- what holds of a result that is known
+known_ok : (result : Result FilterRates RateError) (rates : FilterRates)
+    (P : FilterRates → Type 0) → result ≡ Ok rates → IfOk result P → P rates
+known_ok result rates P is h = rw is at h
 
 names_are : (fields : Scope) (members : List tree.Member) (codes : List HelperCode)
     → AreHelpers fields members codes → names_of codes ≡ helper_names members
@@ -97,16 +110,18 @@ module _ (node : ℕ) (filter : FilterTree) (values : List ℤ) (text : List ℕ
 
   module _ (which : Body) (name : List ℕ) (routine : Routine) (is : IsBody which routine)
       (stand : Standing) (unset : Unset) (fields window : List ℤ) (memory : Memory) (fuel : ℕ)
-      (fires : FiresIn filter (routine_function helper name (not (has_helpers filter)) routine)
-      stand fields window memory) (enough : turn_limit < fuel) where
+      (fires : FiresIn filter
+      (routine_function helper written.tests name (not (has_helpers filter)) routine) stand fields
+      window memory) (enough : turn_limit < fuel) where
     abbrev function : Function
-    function = body_function helper routine.limits
+    function = body_function helper written.tests routine.limits
 
     writes : WritesHelpers calls helper stand
     writes = record {
       names = names_are (field_scope (filter_of filter)) (filter_of filter).members
           written.helpers written.helpers_are;
       fields = fires.same;
+      tests = refl;
       pops = refl;
       peek = refl;
       pushes = refl;
@@ -137,6 +152,18 @@ module _ (node : ℕ) (filter : FilterTree) (values : List ℤ) (text : List ℕ
       ahead = fires.ahead;
     }
 
+    -- a firing without tests comes to none of what these test
+    safe : written.tests ≡ false
+        → fired (filter_of filter) which fields window ≢ Err cause.PeekRange
+    safe none =
+        let closed = written.untested none in
+        let range = known_ok (checked (filter_of filter)) closed.0 (StaysInRange (filter_of filter))
+        closed.1 (firings_stay (filter_of filter) known.closed) in
+        let here = in_plain (run_of (filter_of filter) which fields window) _
+        (range which fields window (omega (arith, stands.peek, fires.whole)) (closed.2 which))
+        (λ store. tt) in
+        λ is. subst IsInRange is here
+
     routine_fires : Refines (FiringShows stand routine.limits.pushes memory)
         (fired (filter_of filter) which fields window)
         (firing_done fuel (helpers_done fuel (without_items stand) unset
@@ -149,7 +176,7 @@ module _ (node : ℕ) (filter : FilterTree) (values : List ℤ) (text : List ℕ
         (helper_functions helper written.helpers) (suc CALL_LIMIT)) stand unset
         (emitted function nodes) memory)) (sym is.code_is)
         (firings_do_same calls which function helper stand unset fields window memory fuel callable
-        known.calls refl stands enough)
+        known.calls refl stands enough safe)
 
   -- the function of a body is that of its routine
   abbrev Does : Body → BodyFunction → Type 0
@@ -168,14 +195,16 @@ module _ (node : ℕ) (filter : FilterTree) (values : List ℤ) (text : List ℕ
   same_body : (a b : BodyFunction) → Some a ≡ Some b → a ≡ b
   same_body a b e = ap (λ o. unwrap_or o a) e
 
+  abbrev prework_function : Routine → BodyFunction
+  prework_function =
+      routine_function helper written.tests (codes "prework") (not (has_helpers filter))
+
   prework_does : (function : BodyFunction) (prework : Option Routine) → written.prework ≡ prework
-      → option_map (routine_function helper (codes "prework") (not (has_helpers filter))) prework
-      ≡ Some function → Does body.Prework function
+      → option_map prework_function prework ≡ Some function → Does body.Prework function
   prework_does function None at e = absurd (none_body function e)
   prework_does function (Some routine) at e =
       subst (Does body.Prework)
-      (same_body (routine_function helper (codes "prework") (not (has_helpers filter)) routine)
-      function e)
+      (same_body (prework_function routine) function e)
       (routine_fires body.Prework (codes "prework") routine (prework_is routine at))
 
   body_does : (which : Body) (own : BodyFunction)

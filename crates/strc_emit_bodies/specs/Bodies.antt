@@ -25,7 +25,8 @@ use Rattle.strc_emit_bodies.specs.Spelling.{functions_of}
 abbrev pub written_functions : {node : ℕ} {filter : FilterTree} {values : List ℤ} {text : List ℕ}
     → IsFilterText node filter values text → FilterFunctions
 written_functions {node} {filter} {values} written =
-    functions_of node filter values written.arrays written.helpers written.prework written.work
+    functions_of node filter values written.arrays written.tests written.helpers written.prework
+    written.work
 
 -- the text that is written for a filter is the spelling of its functions
 abbrev pub FilterTextsAreSpelled : Type 0

@@ -74,25 +74,25 @@ functions_spelled values functions =
     ++ prework_spelled functions.prework ++ body_spelled functions.work
 
 -- the function of a body's routine
-abbrev pub routine_function : Function → (name : List ℕ) → (counts_alone : Bool) → Routine
-    → BodyFunction
-routine_function function name counts_alone routine = record {
-  function = body_function function routine.limits;
+abbrev pub routine_function : Function → (tests : Bool) → (name : List ℕ) → (counts_alone : Bool)
+    → Routine → BodyFunction
+routine_function function tests name counts_alone routine = record {
+  function = body_function function tests routine.limits;
   name = name;
   counts_alone = counts_alone;
   slots = nodes_room (code_of routine.code);
-  statements = emitted (body_function function routine.limits) (code_of routine.code);
+  statements = emitted (body_function function tests routine.limits) (code_of routine.code);
 }
 
--- the functions of a filter with these codes
+-- the functions of a filter with these codes, whose bodies have tests or not
 abbrev pub functions_of : (node : ℕ) → FilterTree → List ℤ → Vec (Option ℕ) Global
-    → List HelperCode → Option Routine → Routine → FilterFunctions
-functions_of node filter values arrays helpers prework work =
+    → (tests : Bool) → List HelperCode → Option Routine → Routine → FilterFunctions
+functions_of node filter values arrays tests helpers prework work =
     let function = helper_function node (length values) arrays (names_of helpers) in
     let alone = not (has_helpers filter) in
     record {
       function = function;
       helpers = helper_functions function helpers;
-      prework = option_map (routine_function function (codes "prework") alone) prework;
-      work = routine_function function (codes "work") alone work;
+      prework = option_map (routine_function function tests (codes "prework") alone) prework;
+      work = routine_function function tests (codes "work") alone work;
     }

@@ -81,13 +81,14 @@ loop_pieces l f t b u y e =
 
 -- a loop
 pub while_text : (function : Function) (depth : ℕ) (n : Node) (first : Box Node Global)
-    (condition : Condition) (body : Box Node Global) → n ≡ While first condition body
+    (condition : Condition) (body : Box Node Global) (mark : ℕ)
+    → n ≡ While first condition body mark
     → node_text function depth n
     ≡ (((loop_line depth ++ node_text function (deeper depth) (box_value first))
     ++ test_text function (deeper depth) condition)
     ++ node_text function (deeper depth) (box_value body)) ++ end_line depth
 unfolding node_text
-while_text function depth n first condition body is =
+while_text function depth n first condition body mark is =
     let inner = deeper depth in
     let before_test = node_text function inner (box_value first) in
     let lines = lines_text function inner (condition_lines condition) in

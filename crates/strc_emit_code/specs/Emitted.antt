@@ -1,5 +1,6 @@
 -- The C of lowered code.
 use Rattle.std.specs.Prelude.{ℕ, ℤ, pos, ◌+◌, true, false, List, [], ◌∷◌, Option, Some, None}
+use Rattle.std.specs.Prelude.{if◌then◌else◌}
 use Rattle.strc_parse_tree.specs.declared.tree.UnaryOperator.TheVariants as unary
 use Rattle.strc_parse_tree.specs.declared.tree.BinaryOperator.{BinaryOperator}
 use Rattle.strc_parse_tree.specs.declared.tree.BinaryOperator.TheVariants as binary
@@ -34,22 +35,37 @@ abbrev pub index_line : (length index : ℕ) → c.Statement
 index_line length index = c.LeaveIf (c.IsOutside (c.Slot index) (c.Size length)) cause.Index
 
 -- the test of a place ahead
-abbrev pub window_line : Function → (place : ℕ) → c.Statement
-window_line function place = c.LeaveIf (c.IsOutside (c.Slot place)
-    (c.Difference (c.Size function.peek) (c.Count c.Popped))) cause.PeekRange
+abbrev pub window_test : Function → (place : ℕ) → c.Test
+window_test function place = c.IsOutside (c.Slot place)
+    (c.Difference (c.Size function.peek) (c.Count c.Popped))
 
--- an item that is taken, looked at, or given, after its test
+-- an item that is taken, looked at, or given
+abbrev pub taken_lines : (into : ℕ) → List c.Statement
+taken_lines into = c.Assign into (c.Input (c.Count c.Popped)) ∷ c.Increase c.Popped ∷ []
+
+abbrev pub ahead_lines : (into from : ℕ) → List c.Statement
+ahead_lines into from =
+    c.Assign into (c.Input (c.Sum (c.Count c.Popped) (c.Slot from))) ∷ []
+
+abbrev pub given_lines : (from : ℕ) → List c.Statement
+given_lines from = c.Output (c.Count c.Pushed) (c.Slot from) ∷ c.Increase c.Pushed ∷ []
+
+-- after a test of the rates or of the window, in a function that has these
+abbrev pub tested_lines : Function → c.Test → List c.Statement → List c.Statement
+tested_lines function test lines =
+    if function.tests then c.LeaveIf test cause.PeekRange ∷ lines else lines
+
 abbrev pub pop_lines : Function → (into : ℕ) → List c.Statement
-pop_lines function into = c.LeaveIf (c.Reaches c.Popped function.pops) cause.PeekRange
-    ∷ c.Assign into (c.Input (c.Count c.Popped)) ∷ c.Increase c.Popped ∷ []
+pop_lines function into =
+    tested_lines function (c.Reaches c.Popped function.pops) (taken_lines into)
 
 abbrev pub peek_lines : Function → (into from : ℕ) → List c.Statement
-peek_lines function into from = window_line function from
-    ∷ c.Assign into (c.Input (c.Sum (c.Count c.Popped) (c.Slot from))) ∷ []
+peek_lines function into from =
+    tested_lines function (window_test function from) (ahead_lines into from)
 
 abbrev pub push_lines : Function → (from : ℕ) → List c.Statement
-push_lines function from = c.LeaveIf (c.Reaches c.Pushed function.pushes) cause.PeekRange
-    ∷ c.Output (c.Count c.Pushed) (c.Slot from) ∷ c.Increase c.Pushed ∷ []
+push_lines function from =
+    tested_lines function (c.Reaches c.Pushed function.pushes) (given_lines from)
 
 -- an element that is read or written, after the test of its index
 abbrev pub load_lines : (into base length index : ℕ) → List c.Statement

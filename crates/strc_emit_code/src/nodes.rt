@@ -36,7 +36,7 @@ pub fn push_node(
             push_node(text, function, deeper(depth), other)?;
             push_end(text, depth)
         }
-        Node::While(first, condition, body) => {
+        Node::While(first, condition, body, _) => {
             push_loop(text, depth)?;
             push_node(text, function, deeper(depth), first)?;
             push_test(text, function, deeper(depth), *condition)?;

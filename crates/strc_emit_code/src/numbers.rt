@@ -51,7 +51,21 @@ pub(crate) fn push_division(
     push_assign_binary(text, function, depth, operator, into, left, right)
 }
 
-/// The next item, after its test.
+// The next item.
+fn push_taken(
+    text: &mut Vec<u8>,
+    function: &Function,
+    depth: u32,
+    into: u32,
+) -> Result<(), NoMemory>
+    ensures { OnOk result (text.new.items ≡ text.old.items ++ lines_text function.now depth
+        (emitted.taken_lines into)) }
+{
+    push_pop(text, function, depth, into)?;
+    push_popped(text, function, depth)
+}
+
+/// The next item, after its test, where there are tests.
 pub(crate) fn push_pop_lines(
     text: &mut Vec<u8>,
     function: &Function,
@@ -61,12 +75,15 @@ pub(crate) fn push_pop_lines(
     ensures { OnOk result (text.new.items ≡ text.old.items ++ lines_text function.now depth
         (emitted.pop_lines function.now into)) }
 {
+    if !function.tests {
+        return push_taken(text, function, depth, into);
+    }
     push_pop_test(text, function, depth)?;
     push_pop(text, function, depth, into)?;
     push_popped(text, function, depth)
 }
 
-/// An item ahead, after its test.
+/// An item ahead, after its test, where there are tests.
 pub(crate) fn push_peek_lines(
     text: &mut Vec<u8>,
     function: &Function,
@@ -77,11 +94,28 @@ pub(crate) fn push_peek_lines(
     ensures { OnOk result (text.new.items ≡ text.old.items ++ lines_text function.now depth
         (emitted.peek_lines function.now into from)) }
 {
+    if !function.tests {
+        return push_peek(text, function, depth, into, from);
+    }
     push_window_test(text, function, depth, from)?;
     push_peek(text, function, depth, into, from)
 }
 
-/// An item that is given, after its test.
+// An item that is given.
+fn push_given(
+    text: &mut Vec<u8>,
+    function: &Function,
+    depth: u32,
+    from: u32,
+) -> Result<(), NoMemory>
+    ensures { OnOk result (text.new.items ≡ text.old.items ++ lines_text function.now depth
+        (emitted.given_lines from)) }
+{
+    push_output(text, function, depth, from)?;
+    push_pushed(text, function, depth)
+}
+
+/// An item that is given, after its test, where there are tests.
 pub(crate) fn push_push_lines(
     text: &mut Vec<u8>,
     function: &Function,
@@ -91,6 +125,9 @@ pub(crate) fn push_push_lines(
     ensures { OnOk result (text.new.items ≡ text.old.items ++ lines_text function.now depth
         (emitted.push_lines function.now from)) }
 {
+    if !function.tests {
+        return push_given(text, function, depth, from);
+    }
     push_room_test(text, function, depth)?;
     push_output(text, function, depth, from)?;
     push_pushed(text, function, depth)

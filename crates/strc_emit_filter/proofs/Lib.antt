@@ -1,0 +1,4 @@
+pub mod Joined
+pub mod Ends
+pub mod Codes
+pub mod Parts

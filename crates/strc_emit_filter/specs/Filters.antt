@@ -1,11 +1,15 @@
 -- The text of a filter.
 use Rattle.std.specs.Prelude.{◌≡◌, ℕ, ℤ, Bool, true, false, List, [], ◌∷◌, ◌++◌, codes, decimal}
-use Rattle.std.specs.Prelude.{length, map, not, Option, Some, None, is_some}
+use Rattle.std.specs.Prelude.{length, map, not, Option, Some, None, is_some, Ok}
 use Rattle.strc_parse_tree.specs.Tree as tree
 use Rattle.strc_parse_tree.specs.declared.tree.FilterTree.{FilterTree}
 use Rattle.strc_parse_tree.specs.declared.tree.ItemType.{ItemType}
 use Rattle.strc_parse_tree.specs.declared.tree.ItemType.TheVariants as item
+use Rattle.strc_work_meaning.specs.declared.body.Body.{Body}
 use Rattle.strc_work_meaning.specs.declared.body.Body.TheVariants as body
+use Rattle.strc_rate.specs.Rates.{FilterRates, checked}
+use Rattle.strc_rate.specs.Safe.{rates_of}
+use Rattle.strc_rate.specs.Ranges.{AllAreClosed}
 use Rattle.strc_work_meaning.specs.Filters.{filter_of, prework_block, body_rates, item_count}
 use Rattle.strc_work_meaning.specs.Filters.{pop_rate, push_rate, window_size}
 use Rattle.strc_work_code.specs.declared.code.Routine.{Routine}
@@ -22,6 +26,7 @@ use Rattle.std.specs.Global.{Global}
 use Rattle.strc_emit_c.specs.declared.function.Function.{Function}
 use Rattle.strc_emit_code.specs.Texts.{node_text}
 use Rattle.strc_emit_text.specs.Texts.{texts_below}
+use Rattle.strc_emit_filter.specs.Arrays.{PartsFindArrays}
 use Rattle.strc_emit_filter.specs.Variables.{field_text, local_text}
 use Rattle.strc_emit_filter.specs.Helpers.{helpers_text}
 
@@ -32,6 +37,7 @@ helper_function node fields arrays helpers = record {
   fields = fields;
   arrays = arrays;
   in_helper = true;
+  tests = true;
   pops = 0;
   peek = 0;
   pushes = 0;
@@ -39,10 +45,11 @@ helper_function node fields arrays helpers = record {
   helpers = helpers;
 }
 
--- the one that a body of these limits is written in
-abbrev pub body_function : Function → FiringLimits → Function
-body_function function limits = record function {
+-- the one that a body of these limits is written in, with tests or without
+abbrev pub body_function : Function → (tests : Bool) → FiringLimits → Function
+body_function function tests limits = record function {
   in_helper = false;
+  tests = tests;
   pops = limits.pops;
   peek = limits.peek;
   pushes = limits.pushes;
@@ -70,18 +77,19 @@ body_text function name counts_alone code =
     ++ texts_below (local_text function) (nodes_room (code_of code))
     ++ node_text function 1 code ++ codes "    return NO_FAULT;\n}\n"
 
-abbrev pub prework_text : Function → (counts_alone : Bool) → Option Routine → List ℕ
-prework_text function counts_alone None = []
-prework_text function counts_alone (Some routine) =
-    body_text (body_function function routine.limits) (codes "prework") counts_alone routine.code
+abbrev pub prework_text : Function → (tests counts_alone : Bool) → Option Routine → List ℕ
+prework_text function tests counts_alone None = []
+prework_text function tests counts_alone (Some routine) =
+    body_text (body_function function tests routine.limits) (codes "prework") counts_alone
+    routine.code
 
 -- the fields, the helper functions and the bodies
-abbrev pub filter_text : Function → (alone : Bool) → List ℤ → List HelperCode → Option Routine
-    → Routine → List ℕ
-filter_text function alone values helpers prework work =
+abbrev pub filter_text : Function → (tests alone : Bool) → List ℤ → List HelperCode
+    → Option Routine → Routine → List ℕ
+filter_text function tests alone values helpers prework work =
     texts_below (field_text function values) (length values) ++ helpers_text function helpers
-    ++ prework_text function alone prework
-    ++ body_text (body_function function work.limits) (codes "work") alone work.code
+    ++ prework_text function tests alone prework
+    ++ body_text (body_function function tests work.limits) (codes "work") alone work.code
 
 -- a routine is that of a prework, where there is one
 abbrev pub IsPreworkOf : FilterTree → Option Routine → Type 0
@@ -102,10 +110,28 @@ among_members (tree.Helper kind name parameters block ∷ rest) = true
 abbrev pub has_helpers : FilterTree → Bool
 has_helpers filter = among_members (filter_of filter).members
 
--- a text is that of a filter: of its lowered code, for some arrays among its slots
+-- the rates of a filter are accepted, and each peek of its bodies is closed
+abbrev pub HasClosedPeeks : FilterTree → Type 0
+HasClosedPeeks filter =
+    (rates : FilterRates) × (checked (filter_of filter) ≡ Ok rates)
+    × ((which : Body) → AllAreClosed (rates_of rates which).closed)
+
+-- what the code of a filter is: that of its helper functions, of its prework, where it has one, and
+-- of its work
+pub record ArePartsOf (filter : FilterTree) (helpers : List HelperCode) (prework : Option Routine)
+    (work : Routine) : Type 0 where
+  pub helpers_are : AreHelpers (field_scope (filter_of filter)) (filter_of filter).members helpers
+  pub prework_is : IsPreworkOf filter prework
+  pub work_is : code_of work.code ≡ body_nodes body.Work (filter_of filter)
+
+-- a text is that of a filter: of its lowered code, for arrays among its slots in which the code
+-- finds those that it works on; its bodies have no tests of their windows and rates only where each
+-- peek is closed
 pub record IsFilterText (node : ℕ) (filter : FilterTree) (values : List ℤ) (text : List ℕ) : Type 0
   where
     pub arrays : Vec (Option ℕ) Global
+    pub tests : Bool
+    pub untested : tests ≡ false → HasClosedPeeks filter
     pub helpers : List HelperCode
     pub prework : Option Routine
     pub work : Routine
@@ -113,8 +139,9 @@ pub record IsFilterText (node : ℕ) (filter : FilterTree) (values : List ℤ) (
     pub prework_is : IsPreworkOf filter prework
     pub work_is : code_of work.code ≡ body_nodes body.Work (filter_of filter)
     pub limits_are : work.limits ≡ limits_of (body_rates body.Work (filter_of filter).members)
+    pub found : PartsFindArrays arrays.items helpers prework work
     pub text_is : text ≡ filter_text (helper_function node (length values) arrays
-        (names_of helpers)) (not (has_helpers filter)) values helpers prework work
+        (names_of helpers)) tests (not (has_helpers filter)) values helpers prework work
 
 -- a comment: the rates of its work
 abbrev pub taken_by : ItemType → FilterTree → List ℕ

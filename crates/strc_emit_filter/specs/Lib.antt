@@ -1,3 +1,4 @@
 pub mod Variables
 pub mod Helpers
+pub mod Arrays
 pub mod Filters

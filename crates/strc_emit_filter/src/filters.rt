@@ -1,9 +1,13 @@
 // The functions of a filter.
 
-ghost use Rattle.std.specs.Prelude.{◌≡◌, ◌++◌, ℕ, List, IfOk, OnOk};
+ghost use Rattle.std.specs.Prelude.{◌≡◌, ◌++◌, ℕ, List, IfOk, OnOk, true, false};
 ghost use Rattle.std.specs.Option.{option_map};
 ghost use Rattle.strc_work_code.specs.declared.limits.FiringLimits.{FiringLimits};
 ghost use Rattle.strc_work_meaning.specs.Filters as filters;
+ghost use Rattle.strc_work_meaning.specs.declared.body.Body.{Body};
+ghost use Rattle.strc_rate.specs.Ranges.{AllAreClosed};
+ghost use Rattle.strc_rate.specs.Safe.{rates_of};
+ghost use Rattle.strc_rate.specs.Verdicts.{rates_view};
 ghost use Rattle.strc_emit_filter.specs.Filters as spec;
 
 use crate::arrays::arrays_of;
@@ -17,6 +21,7 @@ use strc_emit_text::pieces::push_pieces;
 use strc_lex_names::memory::NoMemory;
 use strc_lex_names::scope::Scope;
 use strc_parse_tree::tree::{ItemType, Member};
+use strc_rate::rates::{RateError, Rates, check};
 use strc_work_code::code::{Code, Routine};
 use strc_work_code::helper::HelperCode;
 use strc_work_code::limits::FiringLimits;
@@ -39,9 +44,11 @@ pub fn push_filter(
     let helpers = code.helpers();
     let names = names_of(alloc, helpers)?;
     let function = helper_function(node, fields, arrays, names);
+    let tests = needs_tests(alloc, code)?;
     push_parts(
         text,
         function,
+        tests,
         !has_helpers(code),
         values,
         helpers,
@@ -80,23 +87,60 @@ fn prework_of(code: &Code) -> Option<&Routine>
     }
 }
 
+// Whether the bodies of a filter test what they pop, look at and push: where its text closes each
+// peek, no firing comes to what is tested.
+fn needs_tests(alloc: Global, code: &Code) -> Result<bool, NoMemory>
+    ensures { IfOk result (λ tests. tests ≡ false → spec.HasClosedPeeks code.now) }
+{
+    match check(alloc, code) {
+        Ok(rates) => Ok(!are_closed(&rates)),
+        Err(RateError::NoMemory) => Err(NoMemory),
+        Err(_) => Ok(true),
+    }
+}
+
+// Whether each peek of each body is closed.
+fn are_closed(rates: &Rates) -> bool
+    ensures { result ≡ true → (which : Body)
+        → AllAreClosed (rates_of (rates_view rates.now) which).closed }
+{
+    let prework = match &rates.prework {
+        None => true,
+        Some(prework) => all_closed(&prework.closed),
+    };
+    prework && all_closed(&rates.work.closed)
+}
+
+// Whether each of these is.
+fn all_closed(closed: &[bool]) -> bool
+    ensures { result ≡ true → AllAreClosed closed.now }
+{
+    for is_closed in closed {
+        if !*is_closed {
+            return false;
+        }
+    }
+    true
+}
+
 // Adds the parts of a filter.
 fn push_parts(
     text: &mut Vec<u8>,
     function: Function,
+    tests: bool,
     alone: bool,
     values: &[i32],
     helpers: &[HelperCode],
     prework: Option<&Routine>,
     work: &Routine,
 ) -> Result<(), NoMemory>
-    ensures { OnOk result (text.new.items ≡ text.old.items ++ spec.filter_text function alone
+    ensures { OnOk result (text.new.items ≡ text.old.items ++ spec.filter_text function tests alone
         values.now helpers.now (option_map (λ routine. routine.now) prework.entry) work.now) }
 {
     push_fields(text, &function, values)?;
     push_helpers(text, &function, helpers)?;
-    let function = push_prework(text, function, alone, prework)?;
-    let function = body_function(function, work.limits);
+    let function = push_prework(text, function, tests, alone, prework)?;
+    let function = body_function(function, tests, work.limits);
     push_body(text, &function, b"work", alone, &work.code)
 }
 
@@ -105,18 +149,19 @@ fn push_parts(
 fn push_prework(
     text: &mut Vec<u8>,
     function: Function,
+    tests: bool,
     alone: bool,
     prework: Option<&Routine>,
 ) -> Result<Function, NoMemory>
-    ensures text { OnOk result (text.new.items ≡ text.old.items ++ spec.prework_text function alone
-        (option_map (λ routine. routine.now) prework.entry)) }
+    ensures text { OnOk result (text.new.items ≡ text.old.items ++ spec.prework_text function tests
+        alone (option_map (λ routine. routine.now) prework.entry)) }
     ensures function { IfOk result (λ after. (limits : FiringLimits)
-        → spec.body_function after limits ≡ spec.body_function function limits) }
+        → spec.body_function after tests limits ≡ spec.body_function function tests limits) }
 {
     match prework {
         None => Ok(function),
         Some(routine) => {
-            let function = body_function(function, routine.limits);
+            let function = body_function(function, tests, routine.limits);
             push_body(text, &function, b"prework", alone, &routine.code)?;
             Ok(function)
         }
@@ -132,6 +177,7 @@ fn helper_function(node: u32, fields: u32, arrays: Vec<Option<u32>>, helpers: Sc
         fields,
         arrays,
         in_helper: true,
+        tests: true,
         pops: 0,
         peek: 0,
         pushes: 0,
@@ -140,15 +186,16 @@ fn helper_function(node: u32, fields: u32, arrays: Vec<Option<u32>>, helpers: Sc
     }
 }
 
-// The function that a body of these limits is written in.
-fn body_function(function: Function, limits: FiringLimits) -> Function
-    ensures { result ≡ spec.body_function function limits }
+// The function that a body of these limits is written in, with tests or without.
+fn body_function(function: Function, tests: bool, limits: FiringLimits) -> Function
+    ensures { result ≡ spec.body_function function tests limits }
 {
     Function {
         node: function.node,
         fields: function.fields,
         arrays: function.arrays,
         in_helper: false,
+        tests,
         pops: limits.pops,
         peek: limits.peek,
         pushes: limits.pushes,

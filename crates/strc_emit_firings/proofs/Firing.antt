@@ -1,9 +1,13 @@
 -- A firing of a filter's body in C gives what it gives in the text.
 use Rattle.std.proofs.Common.{◌≡◌, ℕ, suc, ◌+◌, ◌-◌, ◌<◌, ◌≤◌, ℤ, pos}
-use Rattle.std.proofs.Common.{false, List, ◌++◌, length, take, get_or, Ok, refl}
+use Rattle.std.proofs.Common.{◌≢◌, Bool, true, false, List, ◌++◌, length, take, get_or, Result}
+use Rattle.std.proofs.Common.{Ok, Err, refl}
 use Rattle.std.proofs.Common.{sym, ap, ◌∙◌, subst, arith, append-nil, length-take, take-take}
 use Rattle.std.proofs.Common.{true≢false}
 use Rattle.std.proofs.lemmas.List.{get_or-take}
+use Rattle.strc_lex_names.specs.Results.{result_and_then}
+use Rattle.strc_work_meaning.specs.declared.fault.Cause.{Cause}
+use Rattle.strc_work_meaning.specs.declared.fault.Cause.TheVariants as cause
 use Rattle.strc_work_meaning.specs.declared.body.Body.{Body}
 use Rattle.strc_work_meaning.specs.declared.body.Body.TheVariants as body
 use Rattle.strc_work_meaning.specs.declared.fault.TheConstants.{CALL_LIMIT}
@@ -15,12 +19,16 @@ use Rattle.strc_work_code.specs.Lowering.{body_nodes, slot_count}
 use Rattle.strc_work_code.specs.Machine.{Machine, slot_value}
 use Rattle.strc_work_code.specs.Nodes.{Nodes, nodes_done, nodes_room}
 use Rattle.strc_emit_c.specs.declared.function.Function.{Function}
-use Rattle.strc_emit_c.specs.C.{Popped, Pushed, Turns, Depth}
+use Rattle.strc_emit_c.specs.C.{Popped, Pushed, Turns, Depth, Statements}
 use Rattle.strc_emit_c.specs.Meaning.{Cell, Field, Local, Counted, Item, Memory, Standing}
-use Rattle.strc_emit_c.specs.Meaning.{slot_cell, Calls, values_at, statements_done}
+use Rattle.strc_emit_c.specs.Meaning.{slot_cell, Calls, values_at, statements_done, Stop, Faults}
+use Rattle.strc_emit_c.specs.Meaning.{Undefined}
 use Rattle.strc_emit_code.specs.Emitted.{emitted}
 use Rattle.strc_emit_meaning.specs.Refinement.{Refines}
 use Rattle.strc_emit_meaning.specs.Showing.{Shows, Stands, CallsDoTheSame, may_write}
+use Rattle.strc_emit_meaning.specs.Untested.{untested, IsUntouched}
+use Rattle.strc_emit_meaning.proofs.Erasing.{first_untouched, untested_same}
+use Rattle.strc_emit_meaning.proofs.Untesting.{with_tests, emitted_untested}
 use Rattle.strc_emit_meaning.proofs.Cells.{field_cell}
 use Rattle.strc_emit_meaning.proofs.Codes.{codes_do_same}
 use Rattle.strc_emit_meaning.proofs.Lowered.{bodies_are_plain}
@@ -49,7 +57,7 @@ module _ (calls : Callable) (body : Body) (function helper : Function) (stand : 
     (is : IsCallable calls) (fit : CallsFit (filter_in calls).members)
     (levels : calls.levels ≡ call_limit)
     (fires : Fires calls body function helper stand values window memory)
-    (enough : turn_limit < fuel) where
+    (enough : turn_limit < fuel) (tests : function.tests ≡ true) where
   abbrev size : ℕ
   size = slot_count (filter_in calls)
 
@@ -103,6 +111,7 @@ module _ (calls : Callable) (body : Body) (function helper : Function) (stand : 
     fields = fields_are;
     fits = omega (arith, fields_are, fields_fit);
     small = fires.small;
+    tests = tests;
     pops = sym front_is;
     peek = sym ahead_is;
     pushes = fires.pushes;
@@ -235,8 +244,79 @@ module _ (calls : Callable) (body : Body) (function helper : Function) (stand : 
       (λ after. Ok (back_from memory after)) fired_does
       (λ given after ended. (back_from memory after, refl, ended_shows given after ended))
 
+-- a text that doesn't come to what is tested, and C that does the same with tests, so that these
+-- don't leave
+untouched : {A B : Type 0} (R : A → B → Type 0) (x : Result A Cause) (y : Result B Stop)
+    → Refines R x y → x ≢ Err cause.PeekRange → IsUntouched y
+untouched R (Ok a) (Ok b) h safe = tt
+untouched R (Ok a) (Err why) h safe = absurd h
+untouched R (Err why) (Ok b) h safe = absurd h
+untouched R (Err why) (Err Undefined) h safe = absurd h
+untouched R (Err why) (Err (Faults cause.PeekRange)) h safe = safe (ap (λ c. Err c) h)
+untouched R (Err why) (Err (Faults cause.DivZero)) h safe = tt
+untouched R (Err why) (Err (Faults cause.Index)) h safe = tt
+untouched R (Err why) (Err (Faults cause.Turns)) h safe = tt
+untouched R (Err why) (Err (Faults cause.Calls)) h safe = tt
+
+-- a firing without tests that don't leave
+firing_untested : (fuel : ℕ) (calls : Calls) (stand : Standing) (unset : Unset)
+    (code : Statements) (memory : Memory)
+    → IsUntouched (firing_done fuel calls stand unset code memory)
+    → firing_done fuel calls stand unset (untested code) memory
+    ≡ firing_done fuel calls stand unset code memory
+firing_untested fuel calls stand unset code memory h =
+    ap (λ r. result_and_then r (λ after. Ok (back_from memory after)))
+    (untested_same fuel calls stand code (fires_in unset memory)
+    (first_untouched (statements_done fuel calls stand code (fires_in unset memory))
+    (λ after. Ok (back_from memory after)) h))
+
+-- the same function, with tests or without
+fires_tested : (calls : Callable) (body : Body) (function helper : Function) (stand : Standing)
+    (values window : List ℤ) (memory : Memory)
+    → Fires calls body function helper stand values window memory
+    → Fires calls body (record function { tests = true }) helper stand values window memory
+fires_tested calls body function helper stand values window memory fires = record {
+  names = fires.names;
+  pops = fires.pops;
+  peek = fires.peek;
+  pushes = fires.pushes;
+  helpers = fires.helpers;
+  small = fires.small;
+  few_read = fires.few_read;
+  few_written = fires.few_written;
+  reads = fires.reads;
+  writes = fires.writes;
+  count = fires.count;
+  held = fires.held;
+  whole = fires.whole;
+  ahead = fires.ahead;
+}
+
 pub firings_do_same : FiringsDoTheSame
 firings_do_same calls body function helper stand unset values window memory fuel is fit levels
-    fires enough =
-    firing_does calls body function helper stand unset values window memory fuel is fit levels
-    fires enough
+    fires enough safe = by function.tests refl
+  where
+    run : Statements → Result Memory Stop
+    run code = firing_done fuel (helpers_done fuel (without_items stand) unset
+        (helper_functions helper calls.helpers) (suc CALL_LIMIT)) stand unset code memory
+
+    code : Nodes
+    code = body_nodes body (filter_in calls)
+
+    by : (t : Bool) → function.tests ≡ t → Refines (FiringShows stand function.pushes memory)
+        (fired (filter_in calls) body values window) (run (emitted function code))
+    by true e =
+        firing_does calls body function helper stand unset values window memory fuel is fit levels
+        fires enough e
+    by false e =
+        let shown = FiringShows stand function.pushes memory in
+        let given = fired (filter_in calls) body values window in
+        let with = with_tests function e in
+        let tested : Refines shown given (run (emitted with code)) =
+        firing_does calls body with helper stand unset values window memory fuel is fit levels
+        (fires_tested calls body function helper stand values window memory fires) enough refl in
+        subst (λ s. Refines shown given (run s)) (emitted_untested function e code)
+        (subst (Refines shown given) (sym (firing_untested fuel
+        (helpers_done fuel (without_items stand) unset (helper_functions helper calls.helpers)
+        (suc CALL_LIMIT)) stand unset (emitted with code) memory
+        (untouched shown given (run (emitted with code)) tested (safe e)))) tested)

@@ -217,6 +217,7 @@ module _ (calls : Callable) (function : Function) (stand : Standing) (unset : Un
       fields = writes.fields ∙ is.fields_are;
       fits = omega (arith, own, writes.fields, is.fields_are);
       small = small_size;
+      tests = writes.tests;
       pops = writes.pops;
       peek = writes.peek;
       pushes = writes.pushes;

@@ -1,7 +1,9 @@
 -- A filter's functions in C do what its text means.
-use Rattle.std.specs.Prelude.{◌≡◌, ℕ, suc, ◌+◌, ◌-◌, ◌<◌, ◌≤◌, ◌^◌, ℤ, pos, false, Bool, true}
+use Rattle.std.specs.Prelude.{◌≡◌, ◌≢◌, ℕ, suc, ◌+◌, ◌-◌, ◌<◌, ◌≤◌, ◌^◌, ℤ, pos, false, Bool}
+use Rattle.std.specs.Prelude.{true, Err}
 use Rattle.std.specs.Prelude.{List, ◌++◌, length, ◌==◌, ◌&&◌, nat_le, nat_lt, slice_index_or}
 use Rattle.strc_work_meaning.specs.declared.body.Body.{Body}
+use Rattle.strc_work_meaning.specs.declared.fault.Cause.TheVariants as cause
 use Rattle.strc_work_meaning.specs.declared.fault.TheConstants.{CALL_LIMIT}
 use Rattle.strc_work_meaning.specs.Filters.{item_count, pop_rate, push_rate, window_size}
 use Rattle.strc_work_meaning.specs.Filters.{body_rates}
@@ -18,10 +20,11 @@ use Rattle.strc_emit_firings.specs.Functions.{without_items}
 use Rattle.strc_emit_firings.specs.Known.{is_known, CallsFit}
 
 -- a function is written for a filter: it knows the helper functions' names, and takes and gives no
--- items in these
+-- items in these, which is tested
 pub record WritesHelpers (calls : Callable) (function : Function) (stand : Standing) : Type 0 where
   pub names : function.helpers ≡ names_in calls
   pub fields : stand.fields ≡ calls.fields
+  pub tests : function.tests ≡ true
   pub pops : function.pops ≡ 0
   pub peek : function.peek ≡ 0
   pub pushes : function.pushes ≡ 0
@@ -90,13 +93,16 @@ pub record Fires (calls : Callable) (body : Body) (function helper : Function) (
       ≡ slice_index_or window place (pos 0)
 
 -- a firing of a filter's body gives in C what it gives in the text, or faults as there, whatever
--- unset locals hold; it is never undefined
+-- unset locals hold; it is never undefined. Where the function has no tests, the text must not come
+-- to what they test
 abbrev pub FiringsDoTheSame : Type 0
 FiringsDoTheSame =
     (calls : Callable) (body : Body) (function helper : Function) (stand : Standing)
     (unset : Unset) (values window : List ℤ) (memory : Memory) (fuel : ℕ)
     → IsCallable calls → CallsFit (filter_in calls).members → calls.levels ≡ call_limit
     → Fires calls body function helper stand values window memory → turn_limit < fuel
+    → (function.tests ≡ false
+    → fired (filter_in calls) body values window ≢ Err cause.PeekRange)
     → Refines (FiringShows stand function.pushes memory)
     (fired (filter_in calls) body values window)
     (firing_done fuel (helpers_done fuel (without_items stand) unset

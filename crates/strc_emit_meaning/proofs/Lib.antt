@@ -12,3 +12,5 @@ pub mod CallRuns
 pub mod Codes
 pub mod Computed
 pub mod Lowered
+pub mod Erasing
+pub mod Untesting

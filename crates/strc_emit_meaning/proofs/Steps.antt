@@ -25,6 +25,7 @@ use Rattle.strc_emit_c.specs.Meaning.{Item, Counted, Memory, written, Faults, St
 use Rattle.strc_emit_c.specs.Meaning.{slot_cell, Calls, value_of, holds, defined}
 use Rattle.strc_emit_code.specs.Emitted.{binary_lines, number_lines, division_lines}
 use Rattle.strc_emit_code.specs.Emitted.{pop_lines, peek_lines, push_lines}
+use Rattle.std.specs.Prelude.{if◌then◌else◌}
 use Rattle.strc_emit_meaning.specs.Refinement.{Refines, lines_done}
 use Rattle.strc_emit_meaning.specs.Showing.{Stands, Shows}
 use Rattle.strc_emit_meaning.proofs.Places.{is_outside, inside, IsPast, index_cases}
@@ -168,7 +169,9 @@ module _ (function : Function) (setting : Setting) (stand : Standing) (start : M
       → Refines Shown (inst_done setting.port (act.Pop into) machine)
       (lines_done calls stand (pop_lines function into) memory)
   pop_does into machine memory into_lt shows =
-      by (cases_lt machine.traffic.popped function.pops)
+      subst (λ t. Refines Shown (inst_done setting.port (act.Pop into) machine)
+      (lines_done calls stand (if t then c.LeaveIf test cause.PeekRange ∷ lines else lines)
+      memory)) (sym stands.tests) (by (cases_lt machine.traffic.popped function.pops))
     where
       n : ℕ
       n = machine.traffic.popped
@@ -197,12 +200,12 @@ module _ (function : Function) (setting : Setting) (stand : Standing) (start : M
 
       by : (n < function.pops) ⊎ (function.pops ≤ n)
           → Refines Shown (inst_done setting.port (act.Pop into) machine)
-          (lines_done calls stand (pop_lines function into) memory)
+          (lines_done calls stand (c.LeaveIf test cause.PeekRange ∷ lines) memory)
       by (inr le) =
           let none : slice_get setting.port.front n ≡ None =
           slice_get_past setting.port.front n (omega (arith, stands.pops)) in
           refines_as Shown (inst_done setting.port (act.Pop into) machine)
-          (lines_done calls stand (pop_lines function into) memory)
+          (lines_done calls stand (c.LeaveIf test cause.PeekRange ∷ lines) memory)
           (Err (Faults cause.PeekRange))
           (leaves calls stand test cause.PeekRange lines memory
           (tested false (le-ltb n function.pops le)))
@@ -219,7 +222,7 @@ module _ (function : Function) (setting : Setting) (stand : Standing) (start : M
           item_read function setting stand start size stands lower machine memory
           (c.Count c.Popped) n (ap Ok shows.popped) (omega (arith, few_pops)) shows in
           refines_as Shown (inst_done setting.port (act.Pop into) machine)
-          (lines_done calls stand (pop_lines function into) memory)
+          (lines_done calls stand (c.LeaveIf test cause.PeekRange ∷ lines) memory)
           (Ok (written (Counted c.Popped) (pos (n + 1)) first))
           (goes_on calls stand test cause.PeekRange lines memory
           (tested true (lt-ltb n function.pops lt))
@@ -237,7 +240,9 @@ module _ (function : Function) (setting : Setting) (stand : Standing) (start : M
       → Refines Shown (inst_done setting.port (act.Peek into from 0) machine)
       (lines_done calls stand (peek_lines function into from) memory)
   peek_does into from machine memory into_lt from_lt shows =
-      by (index_cases at (function.peek - n))
+      subst (λ t. Refines Shown (inst_done setting.port (act.Peek into from 0) machine)
+      (lines_done calls stand (if t then c.LeaveIf test cause.PeekRange ∷ lines else lines)
+      memory)) (sym stands.tests) (by (index_cases at (function.peek - n)))
     where
       n : ℕ
       n = machine.traffic.popped
@@ -279,10 +284,10 @@ module _ (function : Function) (setting : Setting) (stand : Standing) (start : M
       by : ((place : ℕ) × (at ≡ pos place) × (place < function.peek - n))
           ⊎ ((is_outside at (function.peek - n) ≡ true) × IsPast at (function.peek - n))
           → Refines Shown (inst_done setting.port (act.Peek into from 0) machine)
-          (lines_done calls stand (peek_lines function into from) memory)
+          (lines_done calls stand (c.LeaveIf test cause.PeekRange ∷ lines) memory)
       by (inr past) =
           refines_as Shown (inst_done setting.port (act.Peek into from 0) machine)
-          (lines_done calls stand (peek_lines function into from) memory)
+          (lines_done calls stand (c.LeaveIf test cause.PeekRange ∷ lines) memory)
           (Err (Faults cause.PeekRange))
           (leaves calls stand test cause.PeekRange lines memory (tested true past.0))
           (subst (λ r. Refines Shown r (Err (Faults cause.PeekRange)))
@@ -298,7 +303,7 @@ module _ (function : Function) (setting : Setting) (stand : Standing) (start : M
           ahead_is function setting stand start size stands lower machine memory from m
           (shows.slots from from_lt ∙ found.1) lt shows in
           refines_as Shown (inst_done setting.port (act.Peek into from 0) machine)
-          (lines_done calls stand (peek_lines function into from) memory)
+          (lines_done calls stand (c.LeaveIf test cause.PeekRange ∷ lines) memory)
           (Ok (written (slot_cell stand into) item memory))
           (goes_on calls stand test cause.PeekRange lines memory
           (tested false (ap (λ z. is_outside z (function.peek - n)) found.1
@@ -313,7 +318,10 @@ module _ (function : Function) (setting : Setting) (stand : Standing) (start : M
       → Shown machine memory
       → Refines Shown (inst_done setting.port (act.Push from) machine)
       (lines_done calls stand (push_lines function from) memory)
-  push_does from machine memory from_lt shows = by (cases_lt n function.pushes)
+  push_does from machine memory from_lt shows =
+      subst (λ t. Refines Shown (inst_done setting.port (act.Push from) machine)
+      (lines_done calls stand (if t then c.LeaveIf test cause.PeekRange ∷ lines else lines)
+      memory)) (sym stands.tests) (by (cases_lt n function.pushes))
     where
       n : ℕ
       n = length machine.traffic.pushes
@@ -347,12 +355,12 @@ module _ (function : Function) (setting : Setting) (stand : Standing) (start : M
 
       by : (n < function.pushes) ⊎ (function.pushes ≤ n)
           → Refines Shown (inst_done setting.port (act.Push from) machine)
-          (lines_done calls stand (push_lines function from) memory)
+          (lines_done calls stand (c.LeaveIf test cause.PeekRange ∷ lines) memory)
       by (inr le) =
           let past : nat_lt n setting.port.room ≡ false =
           le-ltb n setting.port.room (omega (arith, stands.pushes)) in
           refines_as Shown (inst_done setting.port (act.Push from) machine)
-          (lines_done calls stand (push_lines function from) memory)
+          (lines_done calls stand (c.LeaveIf test cause.PeekRange ∷ lines) memory)
           (Err (Faults cause.PeekRange))
           (leaves calls stand test cause.PeekRange lines memory
           (tested false (le-ltb n function.pushes le)))
@@ -364,7 +372,7 @@ module _ (function : Function) (setting : Setting) (stand : Standing) (start : M
           let first : Memory = written (Item stand.target place) given memory in
           let last : Memory = written (Counted c.Pushed) (pos (n + 1)) first in
           refines_as Shown (inst_done setting.port (act.Push from) machine)
-          (lines_done calls stand (push_lines function from) memory)
+          (lines_done calls stand (c.LeaveIf test cause.PeekRange ∷ lines) memory)
           (Ok last)
           (goes_on calls stand test cause.PeekRange lines memory
           (tested true (lt-ltb n function.pushes lt))

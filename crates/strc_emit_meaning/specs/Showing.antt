@@ -26,13 +26,15 @@ may_write stand pushes (Item channel place) = channel == stand.target
     && nat_le stand.writes_from place && nat_lt place (stand.writes_from + pushes)
 
 -- a function is written for where its code stands: the fields are as many, and what it may pop,
--- look at and push; its arrays have room for the window and for what is pushed, which are two
--- arrays and hold fewer than 2^31 items; and the window stands in the first one at its start
+-- look at and push, which it tests; its arrays have room for the window and for what is pushed,
+-- which are two arrays and hold fewer than 2^31 items; and the window stands in the first one at
+-- its start
 pub record Stands (function : Function) (setting : Setting) (stand : Standing) (start : Memory)
     (size : ℕ) : Type 0 where
   pub fields : stand.fields ≡ setting.cells
   pub fits : setting.cells ≤ size
   pub small : size < 2 ^ 31
+  pub tests : function.tests ≡ true
   pub pops : function.pops ≡ length setting.port.front
   pub peek : function.peek ≡ length setting.port.ahead
   pub pushes : function.pushes ≡ setting.port.room

@@ -12,6 +12,7 @@ pub mod rows;
 
 ghost use Rattle.strc_emit_meaning.specs.Codes.{CodesDoTheSame};
 ghost use Rattle.strc_emit_meaning.specs.Known.{BodiesArePlain, LoweredIsPlain};
+ghost use Rattle.strc_emit_meaning.specs.Untested.{UntestedAreEmitted, UntestedDoTheSame};
 
 /// From a memory that shows a machine, the C of a function's code comes to one that shows the
 /// machine after the code, or to the same fault; it is never undefined, and none of its loops needs
@@ -29,4 +30,14 @@ pub fn lowered_is_plain()
 /// So has that of each body of a filter.
 pub fn bodies_are_plain()
     ensures { BodiesArePlain }
+{}
+
+/// C without tests of windows and rates does what C with them does, wherever these don't leave.
+pub fn untested_do_the_same()
+    ensures { UntestedDoTheSame }
+{}
+
+/// It is the C of a function that has no such tests.
+pub fn untested_are_emitted()
+    ensures { UntestedAreEmitted }
 {}

@@ -92,16 +92,17 @@ first_body program node tree has function at =
     base = helper_function node (length has.values) has.written.arrays
         (names_of has.written.helpers)
 
-    alone : Bool
-    alone = not (has_helpers tree)
+    written_function : Routine → BodyFunction
+    written_function =
+        routine_function base has.written.tests (codes "prework") (not (has_helpers tree))
 
     by : (found : Option Routine) → IsPreworkOf tree found
-        → option_map (routine_function base (codes "prework") alone) found ≡ Some function
+        → option_map written_function found ≡ Some function
         → IsFirstBody program node tree function
     by None is e = absurd (none-some function e)
     by (Some routine) is e =
-        let same : routine_function base (codes "prework") alone routine ≡ function =
-        same_Some (routine_function base (codes "prework") alone routine) function e in
+        let same : written_function routine ≡ function =
+        same_Some (written_function routine) function e in
         record {
           peek = ap (λ (f : BodyFunction). f.function.peek) (sym same)
               ∙ ap (λ limits. limits.peek) is.2;
@@ -124,7 +125,7 @@ no_prework program node tree has at =
 
     by : (found : Option Routine) → IsPreworkOf tree found
         → option_map (routine_function (helper_function node (length has.values)
-        has.written.arrays (names_of has.written.helpers)) (codes "prework")
+        has.written.arrays (names_of has.written.helpers)) has.written.tests (codes "prework")
         (not (has_helpers tree))) found ≡ None
         → HasNoPrework (filter_of tree)
     by None is e = record {
@@ -134,7 +135,8 @@ no_prework program node tree has at =
     by (Some routine) is e =
         absurd (none-some (routine_function
         (helper_function node (length has.values) has.written.arrays
-        (names_of has.written.helpers)) (codes "prework") (not (has_helpers tree)) routine)
+        (names_of has.written.helpers)) has.written.tests (codes "prework")
+        (not (has_helpers tree)) routine)
         (sym e))
 
 module _ (graph : flat.Graph NodeCode) (program : Program) (when : Phase) (round : ℕ)

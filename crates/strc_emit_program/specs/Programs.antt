@@ -16,6 +16,7 @@ use Rattle.strc_emit_filter.specs.Filters.{IsFilterText, rates_text}
 use Rattle.strc_emit_moves.specs.declared.places.Network.{Network}
 use Rattle.strc_emit_moves.specs.declared.places.Phase.TheVariants as phase
 use Rattle.strc_emit_moves.specs.Rooms.{array_text}
+use Rattle.strc_emit_operators.specs.Spelling.{operators_text}
 use Rattle.strc_emit_program.specs.Fires.{fires_text}
 use Rattle.strc_emit_program.specs.Orders.{order_text}
 use Rattle.strc_emit_program.specs.declared.fixed.TheConstants as fixed
@@ -110,7 +111,8 @@ head_text = fixed.HEAD.now
 abbrev pub helpers_text : List ℕ
 helpers_text =
     fixed.STATE.now
-    ++ (fixed.OPERATORS.now ++ (fixed.WORDS.now ++ codes "\n// The items of channels.\n"))
+    ++ (operators_text ++ (fixed.MOVES.now
+    ++ (fixed.WORDS.now ++ codes "\n// The items of channels.\n")))
 
 -- start-up and so many rounds: the words before a round stay where it faults
 abbrev pub run_text : List ℕ

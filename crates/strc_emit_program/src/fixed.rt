@@ -1,7 +1,8 @@
-// The part of the C that is the same in every program: what it includes, its operators, its words,
-// its input and its `main`.
+// The part of the C that is the same in every program: what it includes, its words, its input and
+// its `main`; its operators are strc_emit_operators'.
 
-/// What comes first: libraries, and what the compiler isn't to tell of unused names.
+/// What comes first: libraries, and what the compiler isn't to tell: unused names, and helper
+/// functions that call themselves until they fault.
 pub(crate) const HEAD: &[u8] = b"\
 #include <errno.h>\n\
 #include <stdint.h>\n\
@@ -20,6 +21,8 @@ pub(crate) const HEAD: &[u8] = b"\
 #endif\n\
 #if defined(__clang__)\n\
 #pragma clang diagnostic ignored \"-Wself-assign\"\n\
+#elif defined(__GNUC__) && __GNUC__ >= 12\n\
+#pragma GCC diagnostic ignored \"-Winfinite-recursion\"\n\
 #endif\n\
 \n";
 
@@ -65,34 +68,8 @@ static uint64_t this_firing;\n\
 static int32_t nothing[1];\n\
 \n";
 
-/// The operators, and moves of items.
-pub(crate) const OPERATORS: &[u8] = b"\
-static inline int32_t negate(int32_t a) { return (int32_t)(0u - (uint32_t)a); }\n\
-static inline int32_t flip(int32_t a) { return a == 0; }\n\
-static inline int32_t complement(int32_t a) { return ~a; }\n\
-static inline int32_t add(int32_t a, int32_t b) { return (int32_t)((uint32_t)a + (uint32_t)b); }\n\
-static inline int32_t subtract(int32_t a, int32_t b) {\n    \
-return (int32_t)((uint32_t)a - (uint32_t)b);\n\
-}\n\
-static inline int32_t multiply(int32_t a, int32_t b) {\n    \
-return (int32_t)((uint32_t)a * (uint32_t)b);\n\
-}\n\
-static inline int32_t quotient(int32_t a, int32_t b) { return b == -1 ? negate(a) : a / b; }\n\
-static inline int32_t remainder_of(int32_t a, int32_t b) { return b == -1 ? 0 : a % b; }\n\
-static inline int32_t bit_or(int32_t a, int32_t b) { return a | b; }\n\
-static inline int32_t exclusive_or(int32_t a, int32_t b) { return a ^ b; }\n\
-static inline int32_t bit_and(int32_t a, int32_t b) { return a & b; }\n\
-static inline int32_t second(int32_t a, int32_t b) { return (void)a, b; }\n\
-static inline int32_t equal(int32_t a, int32_t b) { return a == b; }\n\
-static inline int32_t not_equal(int32_t a, int32_t b) { return a != b; }\n\
-static inline int32_t less(int32_t a, int32_t b) { return a < b; }\n\
-static inline int32_t less_or_equal(int32_t a, int32_t b) { return a <= b; }\n\
-static inline int32_t greater(int32_t a, int32_t b) { return a > b; }\n\
-static inline int32_t greater_or_equal(int32_t a, int32_t b) { return a >= b; }\n\
-static inline int32_t shift_left(int32_t a, int32_t b) {\n    \
-return (int32_t)((uint32_t)a << ((uint32_t)b & 31u));\n\
-}\n\
-static inline int32_t shift_right(int32_t a, int32_t b) { return a >> ((uint32_t)b & 31u); }\n\
+/// A test of indices, and moves of items.
+pub(crate) const MOVES: &[u8] = b"\
 static inline int outside(int32_t index, int32_t length) { return index < 0 || index >= length; }\n\
 static inline void clear(int32_t *array, size_t length) {\n    \
 memset(array, 0, length * sizeof *array);\n\

@@ -6,7 +6,7 @@ ghost use Rattle.strc_elab_graph.specs.NodeView.{node_view};
 ghost use Rattle.strc_emit_text.specs.Texts.{texts_below};
 ghost use Rattle.strc_emit_program.specs.Programs as spec;
 
-use crate::fixed::{HEAD, INPUT, MAIN, OPERATORS, SERVED, STATE, WORDS};
+use crate::fixed::{HEAD, INPUT, MAIN, MOVES, SERVED, STATE, WORDS};
 use crate::nodes::push_nodes;
 use crate::orders::push_order;
 use std::alloc::Global;
@@ -14,6 +14,7 @@ use strc_elab_graph::graph::{Graph, Node};
 use strc_elab_graph::tapes::gives_words;
 use strc_emit_moves::arrays::push_arrays;
 use strc_emit_moves::places::{Network, Phase, number_at};
+use strc_emit_operators::operators_text;
 use strc_emit_text::pieces::Piece::{Bytes, Number};
 use strc_emit_text::pieces::push_pieces;
 use strc_lex_names::memory::NoMemory;
@@ -63,7 +64,8 @@ fn push_helpers(text: &mut Vec<u8>) -> Result<(), NoMemory>
         text,
         &[
             Bytes(STATE),
-            Bytes(OPERATORS),
+            Bytes(operators_text()),
+            Bytes(MOVES),
             Bytes(WORDS),
             Bytes(b"\n// The items of channels.\n"),
         ],

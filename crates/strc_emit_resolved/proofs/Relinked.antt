@@ -2,7 +2,9 @@
 use Rattle.std.proofs.Common.{◌≡◌, ℕ, suc, ◌+◌, List, [], ◌∷◌, ◌++◌, Result, Vec, Global}
 use Rattle.std.proofs.Common.{refl, sym, ap, ◌∙◌, subst}
 use mathlib.Core.Path.{fun_ext}
-use Rattle.std.specs.Prelude.{not, length, codes, ◌≤◌, ℤ}
+use Rattle.std.specs.Prelude.{not, length, codes, ◌≤◌, ℤ, Option}
+use Rattle.std.specs.List.{All}
+use Rattle.std.proofs.lemmas.List.Elements.{All-cons, All-head, All-nil, All-tail}
 use Rattle.strc_lex_names.specs.Results.{result_and_then}
 use Rattle.strc_parse_tree.specs.Tree as tree
 use Rattle.strc_parse_tree.specs.declared.tree.FilterTree.{FilterTree}
@@ -27,6 +29,7 @@ use Rattle.strc_work_code.specs.Machine.{Machine}
 use Rattle.strc_work_code.specs.Nodes.{Nodes, End, Choice, Loop, before, cycled, nodes_room}
 use Rattle.strc_work_code.specs.Nodes.{nodes_print}
 use Rattle.strc_emit_c.specs.declared.function.Function.{Function}
+use Rattle.strc_emit_filter.specs.Arrays.{FindsArrays}
 use Rattle.strc_emit_filter.specs.Helpers.{declaration_text, declarations_from, definition_text}
 use Rattle.strc_emit_filter.specs.Helpers.{definitions_from, helpers_text}
 use Rattle.strc_emit_filter.specs.Filters.{IsFilterText, filter_text, helper_function, names_of}
@@ -42,8 +45,8 @@ module _ (names : List (List ℕ)) where
     relinked (node.BasicBlock insts) = node.BasicBlock insts
     relinked (node.If' condition at chosen at' other) =
         node.If' condition at (relinked chosen) at' (relinked other)
-    relinked (node.While' at first condition at' body) =
-        node.While' at (relinked first) condition at' (relinked body)
+    relinked (node.While' at first condition at' body mark) =
+        node.While' at (relinked first) condition at' (relinked body) mark
     relinked (node.Call call) = node.Call (record call { place = place_of names call.name })
 
     relinked_row : {m : _} → Row_of-Node m → Row_of-Node m
@@ -55,7 +58,7 @@ module _ (names : List (List ℕ)) where
     links (node.Seq' shape body) = links_row body
     links (node.BasicBlock insts) = tt
     links (node.If' condition at chosen at' other) = (links chosen, links other)
-    links (node.While' at first condition at' body) = (links first, links body)
+    links (node.While' at first condition at' body mark) = (links first, links body)
     links (node.Call call) = refl
 
     links_row : {m : _} (row : Row_of-Node m) → IsLinkedRow names (relinked_row row)
@@ -73,7 +76,7 @@ module _ (names : List (List ℕ)) where
         (node_before (relinked other) End) last)) (same_before chosen End)
         ∙ ap (λ c. tested condition (Choice (slot_of condition) (node_before chosen End) c last))
         (same_before other End)
-    same_before (node.While' at first condition at' body) last =
+    same_before (node.While' at first condition at' body mark) last =
         ap (λ c. Loop (before c (tested condition End)) (slot_of condition)
         (node_before (relinked body) End) last) (same_before first End)
         ∙ ap (λ c. Loop (before (node_before first End) (tested condition End))
@@ -101,7 +104,7 @@ module _ (names : List (List ℕ)) where
         (node_done setting (relinked other)) machine) (fun_ext (does_same setting chosen))
         ∙ ap (λ (f : Machine → Result Machine Cause). chosen_after condition
         (node_done setting chosen) f machine) (fun_ext (does_same setting other))
-    does_same setting (node.While' at first condition at' body) machine =
+    does_same setting (node.While' at first condition at' body mark) machine =
         ap (λ (f : Machine → Result Machine Cause). cycled (suc turn_limit)
         (tested_after f condition) (slot_of condition) (node_done setting (relinked body))
         machine) (fun_ext (does_same setting first))
@@ -124,7 +127,7 @@ module _ (names : List (List ℕ)) where
   line_same (node.Seq' shape body) insts e = absurd (cc)
   line_same (node.BasicBlock insts') insts e = e
   line_same (node.If' condition at chosen at' other) insts e = absurd (cc)
-  line_same (node.While' at first condition at' body) insts e = absurd (cc)
+  line_same (node.While' at first condition at' body mark) insts e = absurd (cc)
   line_same (node.Call call) insts e = absurd (cc)
 
   flat_same : (code : Node) (nodes : Nodes) → IsFlat code nodes → IsFlat (relinked code) nodes
@@ -170,6 +173,17 @@ module _ (names : List (List ℕ)) where
     helpers_same fields rest others are.1,
   )
 
+  -- they find the same arrays
+  found_same : (arrays : List (Option ℕ)) (codes : List HelperCode)
+      → All (λ (helper : HelperCode). FindsArrays arrays (code_of helper.code)) codes
+      → All (λ (helper : HelperCode). FindsArrays arrays (code_of helper.code)) (all_linked codes)
+  found_same arrays [] found =
+      All-nil (λ (helper : HelperCode). FindsArrays arrays (code_of helper.code))
+  found_same arrays (first ∷ rest) found =
+      let finds = λ (helper : HelperCode). FindsArrays arrays (code_of helper.code) in
+      All-cons finds (one_linked first) (all_linked rest) (All-head finds first rest found)
+      (found_same arrays rest (All-tail finds first rest found))
+
   names_same : (codes : List HelperCode) → names_of (all_linked codes) ≡ names_of codes
   names_same [] = refl
   names_same (first ∷ rest) = ap (λ l. first.name ∷ l) (names_same rest)
@@ -210,6 +224,8 @@ links_text {number} {filter} {values} {text} written =
     λ of. helper_function number (length values) written.arrays of in (
       record {
         arrays = written.arrays;
+        tests = written.tests;
+        untested = written.untested;
         helpers = linked;
         prework = written.prework;
         work = written.work;
@@ -218,14 +234,22 @@ links_text {number} {filter} {values} {text} written =
         prework_is = written.prework_is;
         work_is = written.work_is;
         limits_are = written.limits_are;
+        found = record {
+          in_helpers = found_same names written.arrays.items written.helpers
+              written.found.in_helpers;
+          in_prework = written.found.in_prework;
+          in_work = written.found.in_work;
+        };
         text_is = written.text_is ∙ sym (
-            ap (λ of. filter_text (function of) alone values linked written.prework written.work)
+            ap (λ of. filter_text (function of) written.tests alone values linked written.prework
+            written.work)
             (names_same names written.helpers)
             ∙ ap (λ helpers. texts_below (field_text (function (names_of written.helpers)) values)
             (length values) ++ helpers
-            ++ prework_text (function (names_of written.helpers)) alone written.prework
-            ++ body_text (body_function (function (names_of written.helpers)) written.work.limits)
-            (codes "work") alone written.work.code)
+            ++ prework_text (function (names_of written.helpers)) written.tests alone
+            written.prework
+            ++ body_text (body_function (function (names_of written.helpers)) written.tests
+            written.work.limits) (codes "work") alone written.work.code)
             (text_same names (function (names_of written.helpers)) written.helpers));
       },
       codes_link names written.helpers,

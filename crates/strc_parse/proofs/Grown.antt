@@ -9,7 +9,7 @@ use Rattle.strc_parse_grammar.specs.Reading.{Fails, Gives, Tall, one_taller}
 use Rattle.strc_parse_grammar.proofs.Repeated.{Fails-then}
 use Rattle.strc_parse_grammar.specs.declared.rule_result.Parsed.{Parsed}
 use Rattle.strc_parse_grammar.specs.Seen.{parsed}
-use Rattle.strc_parse.specs.Kept.{IsGrown}
+use Rattle.strc_parse_grammar.specs.Sequence.{IsGrown}
 
 module _ {T B : Type 0} (view : T → B) (reader : List TokenKind → Tall B)
     (so_far : Parsed (Vec T)) (next : Result (Parsed T) ReadError)

@@ -71,7 +71,7 @@ use Rattle.strc_parse_grammar.proofs.TreeSoundness.{statement_soundness}
 use Rattle.strc_parse.specs.Placed.{IsAt, IsBlockPlaced, IsPlaced, IsPlacedWithin, IsRowPlaced}
 use Rattle.strc_parse.specs.Placed.{spelled_place, AreMembersPlaced, ArePartsPlaced, IsFrom}
 use Rattle.strc_parse.specs.Placed.{IsPlain, IsReadAt, IsStepPlaced, place_between}
-use Rattle.strc_parse.specs.Kept.{IsBoth, IsFollowed, IsGrown}
+use Rattle.strc_parse_grammar.specs.Sequence.{IsBoth, IsFollowed, IsGrown}
 use Rattle.strc_parse.specs.Placed.{AreFieldsPlaced, AreRatesPlaced, IsPhasePlaced, IsRatePlaced}
 use Rattle.strc_parse.specs.Seen.{after_first_view, block_view as seen_block}
 use Rattle.strc_parse.specs.Placed.{AreStreamsPlaced, IsChildPlaced, IsHeadingPlaced}

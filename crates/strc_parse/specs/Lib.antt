@@ -3,4 +3,3 @@ pub mod Readers
 pub mod Parts
 pub mod Placed
 pub mod Texts
-pub mod Kept

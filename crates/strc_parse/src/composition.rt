@@ -14,7 +14,6 @@ ghost use Rattle.strc_parse.specs.Placed.{IsChildPlaced, IsPartPlaced, IsPlacedW
 ghost use Rattle.strc_parse.specs.Readers.{ReadsStatements};
 
 use crate::control::StatementRules;
-use crate::kept::{leaf_of, node_of, with_mark, with_node_height};
 use std::alloc::Global;
 use strc_lex::token::{Keyword, Punctuation, Token, TokenKind};
 use strc_lex_names::name::Name;
@@ -23,6 +22,7 @@ use strc_parse_grammar::argument::{arguments, empty_brackets};
 use strc_parse_grammar::expression::closed;
 use strc_parse_grammar::lookahead::{expect, expect_keyword, is_keyword, peek, tail, unexpected};
 use strc_parse_grammar::rule_result::Parsed;
+use strc_parse_grammar::sequence::{leaf_of, node_of, with_mark, with_node_height};
 use strc_parse_grammar::stream_type::{composite_kind, file, int_items, stream_type};
 use strc_parse_tree::node::{composite_of, filter_of};
 use strc_parse_tree::tree::{Child, Composition, Expr, Role, Splitter, Stmt, StreamType};

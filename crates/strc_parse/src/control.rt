@@ -15,13 +15,15 @@ ghost use Rattle.strc_parse.specs.Placed.{ArePartsPlaced, IsBlockPlaced, IsPlace
 ghost use Rattle.strc_parse.specs.Placed.{IsPlacedWithin, IsReadAt};
 ghost use Rattle.strc_parse.specs.Readers.{ReadsStatements};
 
-use crate::kept::{node_of, node_of_three, node_of_two, with_next, with_node_height};
 use crate::place::placed;
 use crate::simple::{argument, bracketed, ended, for_heading, return_value};
 use std::alloc::Global;
 use strc_lex::token::{Keyword, Punctuation, Token, TokenKind};
 use strc_parse_grammar::lookahead::{is_keyword, is_punctuation, peek, raised, tail, unexpected};
 use strc_parse_grammar::rule_result::Parsed;
+use strc_parse_grammar::sequence::{
+    node_of, node_of_three, node_of_two, with_next, with_node_height,
+};
 use strc_parse_grammar::{Fault, ReadError};
 use strc_parse_tree::node::{block_of, for_of, if_else_of, if_of, while_of};
 use strc_parse_tree::tree::{Expr, Member, Stmt};

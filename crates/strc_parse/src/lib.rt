@@ -9,7 +9,6 @@
 mod composition;
 mod control;
 mod declaration;
-mod kept;
 pub mod laws;
 mod member;
 mod place;

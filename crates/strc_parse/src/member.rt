@@ -15,7 +15,6 @@ ghost use Rattle.strc_parse.specs.Readers.{ReadsStatements};
 ghost use Rattle.strc_parse.specs.Parts as parts;
 
 use crate::control::StatementRules;
-use crate::kept::{both, with_mark, with_next};
 use crate::place::place_between;
 use std::alloc::Global;
 use strc_lex::token::{Keyword, Punctuation, Token, TokenKind};
@@ -27,6 +26,7 @@ use strc_parse_grammar::lookahead::{
 use strc_parse_grammar::parameter::closed_parameters;
 use strc_parse_grammar::part::{before, beside};
 use strc_parse_grammar::rule_result::Parsed;
+use strc_parse_grammar::sequence::{both, with_mark, with_next};
 use strc_parse_grammar::variable::declared;
 use strc_parse_tree::node::{helper_of, init_of, prework_of, work_of};
 use strc_parse_tree::tree::{Expr, HelperType, Member, RateKind, RateTree, Stmt};

@@ -12,7 +12,6 @@ ghost use Rattle.strc_parse_grammar.specs.Reading as spec;
 ghost use Rattle.strc_parse_grammar.specs.Reading.{Gives};
 ghost use Rattle.strc_parse.specs.Placed.{IsHeadingPlaced, IsPlain, IsStepPlaced};
 
-use crate::kept::{both, node_of, with_mark, with_node_height};
 use crate::place::placed;
 use std::alloc::Global;
 use std::mem;
@@ -24,6 +23,7 @@ use strc_parse_grammar::lookahead::{expect, is_punctuation, peek, raised, tail};
 use strc_parse_grammar::operator::assign_at;
 use strc_parse_grammar::part::raise;
 use strc_parse_grammar::rule_result::Parsed;
+use strc_parse_grammar::sequence::{both, node_of, with_mark, with_node_height};
 use strc_parse_grammar::variable::declared;
 use strc_parse_tree::tree::{AssignOperator, Expr, Stmt};
 

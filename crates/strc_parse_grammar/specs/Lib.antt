@@ -6,3 +6,4 @@ pub mod Seen
 pub mod Readers
 pub mod Part
 pub mod Places
+pub mod Sequence

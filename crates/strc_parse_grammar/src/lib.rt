@@ -21,6 +21,7 @@ pub mod parameter;
 pub mod part;
 pub mod place;
 pub mod rule_result;
+pub mod sequence;
 pub mod stream_type;
 pub mod variable;
 

@@ -1,3 +1,4 @@
+pub mod Batched
 pub mod CheckedRates
 pub mod Exclusion
 pub mod Instances

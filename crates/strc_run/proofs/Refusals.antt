@@ -35,7 +35,8 @@ use Rattle.strc_run_refusal.specs.declared.refusal.Refusal.{Refusal}
 use Rattle.strc_run_refusal.specs.declared.refusal.Refusal.TheVariants as refusal
 use Rattle.strc_run.specs.Accepts.{CanRun, round_counts}
 use Rattle.strc_run.specs.Choices.{Choice}
-use Rattle.strc_run.specs.Located.{HasPlacedPlan}
+use Rattle.strc_run.specs.Compiled.{HasCompiled}
+use Rattle.strc_run.specs.declared.compile.Compiled.{Compiled}
 use Rattle.strc_run.specs.Plans.{HasPlan, IsPlanOf}
 use Rattle.strc_run.specs.Refuses.{Breaks, HasNoBalance, IsTrueOf, IsReadRefusal}
 use Rattle.strc_run.specs.Refuses.{IsUntransformed}
@@ -211,10 +212,10 @@ which_deadlock graph startup round broken first later true is = first is
 which_deadlock graph startup round broken first later false is = later is
 
 -- a refusal that is passed on
-pub refusal_passed : (text : List ℕ) (choice : Choice) (result : Result PlanParts PlacedRefusal)
+pub refusal_passed : (text : List ℕ) (choice : Choice) (result : Result Compiled PlacedRefusal)
     (placed : PlacedRefusal) (refused : Refusal) → IsErrAnd result (λ found. found ≡ placed)
-    → placed.refusal ≡ refused → IsTrueOf text choice refused → HasPlacedPlan text choice result
-refusal_passed text choice (Ok plan) placed refused passed same is = absurd passed
+    → placed.refusal ≡ refused → IsTrueOf text choice refused → HasCompiled text choice result
+refusal_passed text choice (Ok compiled) placed refused passed same is = absurd passed
 refusal_passed text choice (Err found) placed refused passed same is =
     subst (IsTrueOf text choice)
     (sym (ap (λ (p : PlacedRefusal). p.refusal) passed ∙ same)) is

@@ -1,5 +1,6 @@
 pub mod Accepts
 pub mod Choices
+pub mod Compiled
 pub mod Laws
 pub mod Located
 pub mod Plans
@@ -11,3 +12,4 @@ pub mod Streams
 pub mod TextRuns
 pub mod Verdicts
 pub mod Limits
+pub mod Batches

@@ -5,13 +5,13 @@ ghost use Rattle.std.specs.Option.{option_map};
 ghost use Rattle.strc_parse_tree.specs.View.{program_view};
 ghost use Rattle.strc_parse.specs.Texts.{Spells};
 ghost use Rattle.strc_run.specs.Choices.{choice_of};
+ghost use Rattle.strc_run.specs.Compiled.{HasCompiled};
 ghost use Rattle.strc_run.specs.Located.{HasPlacedPlan, IsKnownOf, IsLocated, IsMainStream, IsRead};
 ghost use Rattle.strc_run.specs.Located.{refusal_in};
 ghost use Rattle.strc_elab.specs.Elaboration.{elaborated};
 ghost use Rattle.strc_elab.specs.Sound.{IsElaborated};
 ghost use Rattle.strc_elab_stream.specs.View.{stream_view};
 ghost use Rattle.strc_run.specs.Plans.{HasPlan};
-ghost use Rattle.strc_run.specs.Streams.{HasStream};
 ghost use Rattle.strc_run.specs.Refuses.{HasNoBalance, IsReadRefusal};
 ghost use Rattle.strc_run_refusal.specs.declared.refusal.Refusal.TheVariants as refused;
 
@@ -21,13 +21,15 @@ use crate::refusal::Refusal;
 use crate::transformations::transformed;
 use std::alloc::Global;
 use strc_balance::balance::balance;
-use strc_elab::elaborate::{elaborate, elaborate_placed};
+use strc_elab::elaborate::elaborate_placed;
 use strc_elab_flattening::flatten::flatten;
+use strc_elab_paths::paths::paths_of;
 use strc_elab_stream::laws::nodes_deal;
 use strc_elab_stream::stream::Stream;
 use strc_fuse::laws::schedules_can_be_fused;
 use strc_lex::error::LexError;
 use strc_lex::lexer::lex;
+use strc_lex_names::memory::NoMemory;
 use strc_parse::{ParseError, parse};
 use strc_parse_tree::tree::Program;
 use strc_run_refusal::placed_refusal::PlacedRefusal;
@@ -68,22 +70,33 @@ pub fn compile_or_where(
     // graph are the program's.
     ensures located { IfErr result (IsLocated text.now (choice_of options.now)) }
 {
+    match compile_whole(alloc, text, options) {
+        Ok(Compiled { plan, stream: _ }) => Ok(plan),
+        Err(placed) => Err(placed),
+    }
+}
+
+/// A text's plan, and the main stream that it is the plan of.
+#[derive(Drop)]
+pub struct Compiled {
+    pub plan: Plan,
+    pub stream: Stream,
+}
+
+/// As `compile_or_where`, with the main stream.
+pub fn compile_whole(
+    alloc: Global,
+    text: &[u8],
+    options: &Options,
+) -> Result<Compiled, PlacedRefusal>
+    ensures compiled { HasCompiled text.now (choice_of options.now) result }
+    // The statement is that of the elaboration, where the tokens of the text spell it; stream and
+    // graph are the program's.
+    ensures located { IfErr result (IsLocated text.now (choice_of options.now)) }
+{
     let program = read_program(alloc, text)?;
     let main = options.main_name();
     compile_program(alloc, &program, main, options.ways, options.fuse)
-}
-
-/// The main stream of a text, without its graph; or the refusal of the first rule that is broken on
-/// the way to it: of the text's tokens, its tree, its elaboration. `NoMemory` can come in place of
-/// any answer.
-pub fn stream_of(alloc: Global, text: &[u8], options: &Options) -> Result<Stream, Refusal>
-    ensures { HasStream text.now (choice_of options.now) result }
-{
-    let program = read_program(alloc, text)?;
-    match elaborate(alloc, &program, options.main_name()) {
-        Ok(stream) => Ok(stream),
-        Err(error) => Err(Refusal::from(error)),
-    }
 }
 
 // The plan of a program that was read, of whatever text spells it; or the refusal, with what is
@@ -94,9 +107,9 @@ fn compile_program(
     main: Option<&str>,
     ways: u32,
     fuse: u32,
-) -> Result<Plan, PlacedRefusal>
-    ensures plan { (text : List ℕ) → Spells text (program_view program.now)
-        → HasPlacedPlan text (record
+) -> Result<Compiled, PlacedRefusal>
+    ensures compiled { (text : List ℕ) → Spells text (program_view program.now)
+        → HasCompiled text (record
         { main = option_map (λ n. n.now) main.entry; ways = ways; fuse = fuse }) result }
     ensures known { IfErr result (IsKnownOf program.now (option_map (λ n. n.now) main.entry)) }
 {
@@ -129,8 +142,17 @@ fn compile_program(
         Ok(split) => split,
         Err(refusal) => return Err(PlacedRefusal::of_graph(refusal, stream, graph)),
     };
-    let plan = Plan::new(alloc, graph, startup_counts, round_counts, schedule, split)?;
-    Ok(plan)
+    let paths = paths_in(alloc, &stream)?;
+    let plan = Plan::new(
+        alloc,
+        graph,
+        startup_counts,
+        round_counts,
+        schedule,
+        split,
+        paths,
+    )?;
+    Ok(Compiled { plan, stream })
 }
 
 // The main stream of a program; or the refusal, at the statement that it was in.
@@ -148,6 +170,11 @@ fn main_stream(
         Ok(stream) => Ok(stream),
         Err(placed) => Err(PlacedRefusal::at(placed.error, placed.place)),
     }
+}
+
+// The paths of a stream's nodes.
+fn paths_in(alloc: Global, stream: &Stream) -> Result<Vec<Vec<u8>>, NoMemory> {
+    Ok(paths_of(alloc, stream)?)
 }
 
 // The program that the text spells.

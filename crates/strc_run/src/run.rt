@@ -1,11 +1,12 @@
 // The rounds of a plan.
 
-ghost use Rattle.std.specs.Prelude.{◌≡◌, ◌≤◌, None, IfErr, IfOk, length};
+ghost use Rattle.std.specs.Prelude.{◌≡◌, ◌<◌, ◌≤◌, None, IfErr, IfOk, length};
 ghost use Rattle.strc_stage.specs.Answers.{AnswersPlan};
 ghost use Rattle.strc_stage_steps.specs.Plans.{need_of};
+ghost use Rattle.strc_run.specs.Batches.{AreBatches, AreBatchesOf, outcome_of};
 ghost use Rattle.strc_run.specs.Rounds.{AreWorkers, IsRunOf, IsWorkedRefusal, plan_reads};
 
-use crate::sharing::{Batching, Sharing};
+use crate::sharing::{Batching, SharedRun, Sharing};
 use crate::single_run::run_single;
 use crate::staged_run::run_staged;
 use std::alloc::Global;
@@ -50,11 +51,15 @@ pub fn run<G: Gate<Stage>, R: Threads + Wait + Sync>(
         workers,
         batching: Batching::One,
     };
-    run_shared(rt, alloc, plan, input, rounds, sharing, gate)
+    match run_shared(rt, alloc, plan, input, rounds, sharing, gate) {
+        Ok(run) => Ok(run.outcome),
+        Err(refusal) => Err(refusal),
+    }
 }
 
-/// The same, by so many workers and so many rounds at a time. However rounds are shared, the
-/// outcome is the same; a fault under batches is found by the run anew, one by one.
+/// The same, by so many workers and so many rounds at a time, with the batches that there were.
+/// However rounds are shared, the outcome is the same; a fault under batches is found by the run
+/// anew, one by one.
 pub fn run_shared<G: Gate<Stage>, R: Threads + Wait + Sync>(
     rt: &R,
     alloc: Global,
@@ -63,8 +68,10 @@ pub fn run_shared<G: Gate<Stage>, R: Threads + Wait + Sync>(
     rounds: Option<u32>,
     sharing: Sharing,
     gate: &G,
-) -> Result<Outcome, RunRefusal>
-    ensures { IsRunOf plan.now input.now rounds sharing.workers result }
+) -> Result<SharedRun, RunRefusal>
+    ensures run { IsRunOf plan.now input.now rounds sharing.workers (outcome_of result) }
+    ensures batches { 0 < length plan.now.graph.nodes → IfOk result (λ run.
+        AreBatchesOf plan.now input.now rounds sharing run.batches) }
 {
     let workers = sharing.workers;
     if workers == 0 || workers > WORKER_LIMIT {
@@ -84,9 +91,11 @@ fn run_served<G: Gate<Stage>, R: Threads + Wait + Sync>(
     input: &[i32],
     sharing: Sharing,
     gate: &G,
-) -> Result<Outcome, RunRefusal>
+) -> Result<SharedRun, RunRefusal>
     requires workers { AreWorkers sharing.workers }
-    ensures { IsRunOf plan.now input.now None sharing.workers result }
+    ensures run { IsRunOf plan.now input.now None sharing.workers (outcome_of result) }
+    ensures batches { 0 < length plan.now.graph.nodes → IfOk result (λ run.
+        AreBatchesOf plan.now input.now None sharing run.batches) }
 {
     if !reads_input(plan) {
         return Err(RunRefusal::RoundsNeeded);
@@ -105,14 +114,16 @@ fn run_rounds<G: Gate<Stage>, R: Threads + Wait + Sync>(
     rounds: u32,
     sharing: Sharing,
     gate: &G,
-) -> Result<Outcome, RunRefusal>
+) -> Result<SharedRun, RunRefusal>
     requires workers { AreWorkers sharing.workers }
-    ensures answer { IfOk result (AnswersPlan plan.now input.now rounds) }
+    ensures answer { IfOk result (λ run. AnswersPlan plan.now input.now rounds run.outcome) }
+    ensures batches { 0 < length plan.now.graph.nodes → IfOk result (λ run.
+        AreBatches plan.now sharing rounds run.batches) }
     ensures enough { IfOk result (λ _. need_of plan.now rounds ≤ length input.now) }
     ensures refused { IfErr result (IsWorkedRefusal plan.now input.now rounds sharing.workers) }
 {
     let graph = plan.graph();
-    let need = input_needed(graph, plan.schedule(), rounds);
+    let need = numbers_read(plan, rounds);
     let got = input.len() as u64;
     if got < need {
         return Err(RunRefusal::InputShort { need, got });
@@ -121,6 +132,13 @@ fn run_rounds<G: Gate<Stage>, R: Threads + Wait + Sync>(
         return run_single(alloc, plan, input, rounds, sharing.batching);
     }
     run_staged(rt, alloc, plan, input, rounds, sharing, gate)
+}
+
+/// How many numbers start-up and so many rounds read.
+pub fn numbers_read(plan: &Plan, rounds: u32) -> u64
+    ensures { result ≡ need_of plan.now rounds }
+{
+    input_needed(plan.graph(), plan.schedule(), rounds)
 }
 
 /// Whether a node of the plan's graph reads the program's input.

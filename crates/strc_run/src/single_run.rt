@@ -5,8 +5,9 @@ ghost use Rattle.strc_sched_outcome.specs.declared.outcome.Outcome.TheVariants.{
 ghost use Rattle.strc_sched_outcome.specs.declared.run_refusal.RunRefusal.TheVariants as refused;
 ghost use Rattle.strc_stage_steps.specs.Plans.{need_of};
 ghost use Rattle.strc_stage.specs.Answers.{AnswersPlan};
+ghost use Rattle.strc_run.specs.Batches.{IsBatched, wanted_batch};
 
-use crate::sharing::Batching;
+use crate::sharing::{Batching, SharedRun, batches_of};
 use std::alloc::Global;
 use strc_batch::{batch_of, chosen_batch};
 use strc_run_batches::by_batches::run_by_batches;
@@ -23,19 +24,31 @@ pub(crate) fn run_single(
     input: &[i32],
     rounds: u32,
     batching: Batching,
-) -> Result<Outcome, RunRefusal>
+) -> Result<SharedRun, RunRefusal>
     requires enough { need_of plan.now rounds ≤ length input.now }
-    ensures answer { IfOk result (AnswersPlan plan.now input.now rounds) }
+    ensures answer { IfOk result (λ run. AnswersPlan plan.now input.now rounds run.outcome) }
+    ensures batches { 0 < length plan.now.graph.nodes → IfOk result (λ run.
+        IsBatched (wanted_batch plan.now batching rounds 1) rounds run.batches) }
     ensures memory { IfErr result (λ refusal. refusal ≡ refused.NoMemory) }
 {
     let each = match batching {
+        _ if plan.graph().nodes().is_empty() => 1,
         Batching::One => 1,
         Batching::Chosen => chosen_batch(plan, rounds, 1),
         Batching::Of(count) => count,
     };
     match batched_tapes(alloc, plan, input, rounds, each) {
-        Some(tapes) => Ok(Outcome::Done(tapes)),
-        None => run_alone(alloc, plan, input, rounds),
+        Some(tapes) => Ok(SharedRun {
+            outcome: Outcome::Done(tapes),
+            batches: batches_of(each, rounds, false),
+        }),
+        None => match run_alone(alloc, plan, input, rounds) {
+            Ok(outcome) => Ok(SharedRun {
+                outcome,
+                batches: batches_of(each, rounds, each > 1),
+            }),
+            Err(refusal) => Err(refusal),
+        },
     }
 }
 

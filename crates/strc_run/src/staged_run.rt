@@ -1,13 +1,14 @@
 // The rounds of a plan by several workers.
 
-ghost use Rattle.std.specs.Prelude.{◌<◌, ◌≤◌, length, IfErr, IfOk, IfSome};
+ghost use Rattle.std.specs.Prelude.{◌≡◌, ◌<◌, ◌≤◌, length, IfErr, IfOk, IfSome};
 ghost use Rattle.strc_stage_cut.specs.Cuts.{IsCutAt};
 ghost use Rattle.strc_sched_outcome.specs.declared.outcome.Outcome.TheVariants.{Done};
 ghost use Rattle.strc_stage_steps.specs.Plans.{need_of};
 ghost use Rattle.strc_stage.specs.Answers.{AnswersPlan};
 ghost use Rattle.strc_stage.specs.Running.{LacksMeans};
+ghost use Rattle.strc_run.specs.Batches.{AreBatches, IsBatched, least_rounds, shared_batch};
 
-use crate::sharing::{Batching, Sharing};
+use crate::sharing::{Batching, SharedRun, Sharing, batches_of};
 use std::alloc::Global;
 use std::sync::Wait;
 use std::thread::Threads;
@@ -33,24 +34,58 @@ pub(crate) fn run_staged<G: Gate<Stage>, R: Threads + Wait + Sync>(
     rounds: u32,
     sharing: Sharing,
     gate: &G,
-) -> Result<Outcome, RunRefusal>
+) -> Result<SharedRun, RunRefusal>
     requires rounds { 0 < rounds }
-    requires workers { 0 < sharing.workers }
+    requires workers { 1 < sharing.workers }
     requires nodes { 0 < length plan.now.graph.nodes }
     requires enough { need_of plan.now rounds ≤ length input.now }
-    ensures answer { IfOk result (AnswersPlan plan.now input.now rounds) }
+    ensures answer { IfOk result (λ run. AnswersPlan plan.now input.now rounds run.outcome) }
+    ensures batches { IfOk result (λ run. AreBatches plan.now sharing rounds run.batches) }
     ensures means { IfErr result (LacksMeans plan.now input.now) }
 {
     let workers = sharing.workers;
-    // Each stage is to step some times while the others do.
-    let each = match sharing.batching {
-        Batching::One => return run_stages(rt, alloc, plan, input, rounds, workers, gate),
-        Batching::Chosen => chosen_batch(plan, rounds / workers, step_rounds(alloc, plan, workers)),
-        Batching::Of(count) => count,
+    let Ok(each) = wanted_batch(alloc, plan, rounds, sharing) else {
+        return Err(RunRefusal::NoMemory);
     };
+    if let Batching::One = sharing.batching {
+        return run_by_rounds(rt, alloc, plan, input, rounds, workers, gate, each, false);
+    }
     match batched_tapes(rt, alloc, plan, input, rounds, workers, each, gate) {
-        Some(tapes) => Ok(Outcome::Done(tapes)),
-        None => run_stages(rt, alloc, plan, input, rounds, workers, gate),
+        Some(tapes) => Ok(SharedRun {
+            outcome: Outcome::Done(tapes),
+            batches: batches_of(each, rounds, false),
+        }),
+        None => run_by_rounds(rt, alloc, plan, input, rounds, workers, gate, each, true),
+    }
+}
+
+/// Start-up and so many rounds by the stages of the plan, one by one, where batches are to have so
+/// many, and came to no end or weren't begun.
+fn run_by_rounds<G: Gate<Stage>, R: Threads + Wait + Sync>(
+    rt: &R,
+    alloc: Global,
+    plan: &Plan,
+    input: &[i32],
+    rounds: u32,
+    workers: u32,
+    gate: &G,
+    each: u32,
+    fell_back: bool,
+) -> Result<SharedRun, RunRefusal>
+    requires rounds { 0 < rounds }
+    requires workers { 0 < workers }
+    requires nodes { 0 < length plan.now.graph.nodes }
+    requires enough { need_of plan.now rounds ≤ length input.now }
+    ensures answer { IfOk result (λ run. AnswersPlan plan.now input.now rounds run.outcome) }
+    ensures batches { IfOk result (λ run. IsBatched each rounds run.batches) }
+    ensures means { IfErr result (LacksMeans plan.now input.now) }
+{
+    match run_stages(rt, alloc, plan, input, rounds, workers, gate) {
+        Ok(outcome) => Ok(SharedRun {
+            outcome,
+            batches: batches_of(each, rounds, fell_back),
+        }),
+        Err(refusal) => Err(refusal),
     }
 }
 
@@ -86,12 +121,32 @@ fn batched_tapes<G: Gate<Stage>, R: Threads + Wait + Sync>(
     }
 }
 
+/// How many rounds a batch is to have, so that each stage steps some times while the others do.
+fn wanted_batch(alloc: Global, plan: &Plan, rounds: u32, sharing: Sharing) -> Result<u32, NoMemory>
+    requires workers { 1 < sharing.workers }
+    requires nodes { 0 < length plan.now.graph.nodes }
+    ensures { IfOk result (λ wanted. wanted ≡ shared_batch plan.now sharing rounds) }
+{
+    let workers = sharing.workers;
+    match sharing.batching {
+        Batching::One => Ok(1),
+        Batching::Chosen => {
+            let least = step_rounds(alloc, plan, workers)?;
+            Ok(chosen_batch(plan, rounds / workers, least))
+        }
+        Batching::Of(count) => Ok(count),
+    }
+}
+
 /// How many rounds a worker's step is to have, so that its work is worth handing its parcel on; one
-/// where memory runs out for that.
-fn step_rounds(alloc: Global, plan: &Plan, workers: u32) -> u32 {
-    match round_work(alloc, plan) {
-        Ok(work) => rounds_for_step(work, workers),
-        Err(NoMemory) => 1,
+/// where one worker does all.
+fn step_rounds(alloc: Global, plan: &Plan, workers: u32) -> Result<u32, NoMemory>
+    ensures { IfOk result (λ least. least ≡ least_rounds plan.now workers) }
+{
+    if 1 < workers {
+        Ok(rounds_for_step(round_work(alloc, plan)?, workers))
+    } else {
+        Ok(1)
     }
 }
 

@@ -10,9 +10,11 @@ ghost use Rattle.strc_run_refusal.specs.declared.refusal.Refusal.TheVariants.{No
 use crate::refusal::Refusal;
 use strc_elab_graph::graph::Graph;
 use strc_elab_statements::error::ElabError;
+use strc_elab_statements::within::Within;
 use strc_elab_stream::stream::Stream;
 use strc_lex_names::memory;
 use strc_lex_names::place::Span;
+use strc_work_meaning::fault::Trapped;
 use strc_work_rules::site::Site;
 
 /// The first rule that a text breaks, and what is known of the program that breaks it.
@@ -20,6 +22,8 @@ pub struct PlacedRefusal {
     pub refusal: Refusal,
     /// Which rule on types, kinds and parts it is, and at which name, as far as that is known.
     pub site: Site,
+    /// Of a rule of elaboration the stream whose text breaks it, with its arguments.
+    pub within: Within,
     /// Of a rule of elaboration the innermost statement that ran, or the rate or the declaration of
     /// fields around what breaks it.
     pub statement: Option<Span>,
@@ -36,6 +40,7 @@ impl Drop for PlacedRefusal {
         let PlacedRefusal {
             refusal: _,
             site: _,
+            within: _,
             statement: _,
             stream: _,
             graph: _,
@@ -50,9 +55,11 @@ impl PlacedRefusal {
             { statement = statement } }
     {
         let site = error.site();
+        let (kind, within) = error.into_parts();
         PlacedRefusal {
-            refusal: Refusal::from(error),
+            refusal: Refusal::from(kind),
             site,
+            within,
             statement,
             stream: None,
             graph: None,
@@ -65,9 +72,11 @@ impl PlacedRefusal {
             { stream = Some stream } }
     {
         let site = error.site();
+        let (kind, within) = error.into_parts();
         PlacedRefusal {
-            refusal: Refusal::from(error),
+            refusal: Refusal::from(kind),
             site,
+            within,
             statement: None,
             stream: Some(stream),
             graph: None,
@@ -81,6 +90,7 @@ impl PlacedRefusal {
         PlacedRefusal {
             refusal,
             site: nowhere(),
+            within: Within::unknown(),
             statement: None,
             stream: Some(stream),
             graph: Some(graph),
@@ -94,6 +104,7 @@ impl PlacedRefusal {
         let PlacedRefusal {
             refusal,
             site: _,
+            within: _,
             statement: _,
             stream: _,
             graph: _,
@@ -109,6 +120,11 @@ fn nowhere() -> Site
     Site {
         place: None,
         mismatch: None,
+        trapped: Trapped {
+            mark: 0,
+            index: 0,
+            count: 0,
+        },
     }
 }
 
@@ -120,6 +136,7 @@ impl From<Refusal> for PlacedRefusal {
         PlacedRefusal {
             refusal,
             site: nowhere(),
+            within: Within::unknown(),
             statement: None,
             stream: None,
             graph: None,

@@ -150,7 +150,15 @@ impl From<ElabError> for Refusal {
     ghost from_gives = { λ e r. r ≡ refusal_of e };
 
     fn from(error: ElabError) -> Refusal {
-        match error.into_kind() {
+        Refusal::from(error.into_kind())
+    }
+}
+
+impl From<ElabErrorKind> for Refusal {
+    ghost from_gives = { λ e r. r ≡ refusal_of e };
+
+    fn from(kind: ElabErrorKind) -> Refusal {
+        match kind {
             ElabErrorKind::UnknownName { name } => Refusal::UnknownName { name },
             ElabErrorKind::TypeMismatch { stream } => Refusal::TypeMismatch { stream },
             ElabErrorKind::NoMain => Refusal::NoMain,

@@ -10,7 +10,7 @@ use Rattle.strc_sched_laws.specs.Rings.{Ring, items_at, moved}
 use Rattle.strc_sched_laws.specs.Wiring.{ports_at}
 use Rattle.strc_sched_machine.specs.Blocks.{HasPassed, PassesOn}
 use Rattle.strc_sched_machine.specs.Batches.{FitsKind, IsBatch}
-use Rattle.strc_sched_machine.specs.Identities.{KeepsNothing, PassesItems}
+use Rattle.strc_sched_filters.specs.Identities.{KeepsNothing, PassesItems}
 use Rattle.strc_sched_machine.specs.declared.batches.Kind.{Kind}
 use Rattle.strc_sched_machine.specs.declared.batches.Kind.TheVariants as kinds
 use Rattle.strc_sched_machine.proofs.Blocks.{identity_passes}

@@ -21,9 +21,9 @@ use Rattle.strc_sched_laws.specs.Steps.{Goes, if_found, filter_step, identity_st
 use Rattle.strc_sched_laws.specs.Wiring.{ports_at}
 use Rattle.strc_sched_rings.specs.Turns.{times}
 use Rattle.strc_sched_machine.specs.Blocks.{PassesOn}
-use Rattle.strc_sched_machine.specs.Identities.{PassesItems}
+use Rattle.strc_sched_filters.specs.Identities.{PassesItems}
 use Rattle.strc_sched_machine.proofs.Done.{fields_kept, step_of}
-use Rattle.strc_sched_machine.proofs.Identities.{filter_passes}
+use Rattle.strc_sched_filters.proofs.Identities.{filter_passes}
 
 -- of an item and more of them as many join a list as there is room for
 joined_more : (front more : List ℤ) (item : ℤ) (room left : ℕ)

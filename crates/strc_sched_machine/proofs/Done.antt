@@ -37,7 +37,7 @@ use Rattle.strc_sched_machine.specs.Actors.{AreActors, IsActorOf, IsCopyActor, K
 use Rattle.strc_sched_machine.specs.Actors.{fields_of}
 use Rattle.strc_sched_rings.specs.Answers.{HasStepped, MovesBy}
 use Rattle.strc_sched_machine.specs.Passing.{IsPassive}
-use Rattle.strc_sched_machine.specs.Identities.{KeepsNothing}
+use Rattle.strc_sched_filters.specs.Identities.{KeepsNothing}
 use Rattle.strc_sched_machine.specs.Running.{HasDone, HaveMoreWords, HoldRings, IsMachine}
 use Rattle.strc_sched_machine.specs.declared.actor.Actor.{Actor}
 use Rattle.strc_sched_machine.specs.declared.actor.Actor.TheVariants as kinds

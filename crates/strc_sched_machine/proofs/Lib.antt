@@ -6,7 +6,6 @@ pub mod Going
 pub mod Wanting
 pub mod Looking
 pub mod Held
-pub mod Identities
 pub mod Blocks
 pub mod Batching
 pub mod ByHand
@@ -15,7 +14,6 @@ pub mod TurnFirings
 pub mod PartLists
 pub mod PartMachines
 pub mod KeptNodes
-pub mod LaneFirings
 pub mod LaneRings
 pub mod LaneTurns
 pub mod LaneTakings

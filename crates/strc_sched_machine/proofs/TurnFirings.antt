@@ -16,7 +16,7 @@ use Rattle.strc_sched_laws.specs.Steps.{Goes, if_found, finds_weights, node_step
 use Rattle.strc_sched_laws.specs.Wiring.{ports_at}
 use Rattle.strc_sched_laws.proofs.Changes.{items_after, still_placed}
 use Rattle.strc_sched_laws.proofs.Dealing.{gathering_moves, piece}
-use Rattle.strc_sched_machine.specs.Identities.{KeepsNothing}
+use Rattle.strc_sched_filters.specs.Identities.{KeepsNothing}
 use Rattle.strc_sched_rings.specs.Turns.{FindsCycles, HasTurned, times}
 use Rattle.strc_sched_machine.specs.Blocks.{HasPassed, PassesOn}
 use Rattle.strc_sched_machine.proofs.Blocks.{passes}

@@ -9,7 +9,7 @@ use Rattle.strc_sched_laws.specs.Machine.{CircuitView}
 use Rattle.strc_sched_laws.specs.Rings.{at_port}
 use Rattle.strc_sched_laws.specs.Wiring.{ports_at}
 use Rattle.strc_sched_rings.specs.Apart.{AreApart}
-use Rattle.strc_sched_machine.specs.Identities.{PassesItems}
+use Rattle.strc_sched_filters.specs.Identities.{PassesItems}
 use Rattle.strc_sched_machine.specs.declared.batches.Kind.{Kind}
 use Rattle.strc_sched_machine.specs.declared.batches.Kind.TheVariants as kind
 use Rattle.strc_sched_machine.specs.declared.batches.Batch.{Batch}

@@ -7,7 +7,7 @@ use Rattle.strc_elab_graph.specs.Graphs.{NodeCode}
 use Rattle.strc_sched_orders.specs.Order.{repeated}
 use Rattle.strc_sched_laws.specs.Machine.{CircuitView, Went, order_run}
 use Rattle.strc_sched_laws.specs.Rings.{Ring}
-use Rattle.strc_sched_machine.specs.Identities.{KeepsNothing}
+use Rattle.strc_sched_filters.specs.Identities.{KeepsNothing}
 
 -- so many firings of a node that keeps no fields leave these rings, and count themselves
 abbrev pub PassesOn : CircuitView → (node turns : ℕ) → (before after : List Ring) → Type 0

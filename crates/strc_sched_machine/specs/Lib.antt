@@ -2,12 +2,10 @@ pub mod Passing
 pub mod Actors
 pub mod Copies
 pub mod Running
-pub mod Identities
 pub mod Blocks
 pub mod Batches
 pub mod Parts
 pub mod Memory
 pub mod Handing
 pub mod Keeping
-pub mod Firings
 pub mod Lanes

@@ -14,9 +14,9 @@ ghost use Rattle.strc_sched_machine.specs.Batches.{in_circuit};
 ghost use Rattle.strc_sched_machine.specs.Batches.{units_of};
 
 use crate::chains::hands_of;
-use crate::identity::is_identity;
 use std::alloc::{AllocError, Global};
 use strc_elab_graph::graph::Node;
+use strc_sched_filters::identity::is_identity;
 use strc_sched_orders::unit::Unit;
 use strc_sched_rings::circuit::Circuit;
 use strc_sched_rings::movers::ring_of;

@@ -12,12 +12,12 @@ ghost use Rattle.strc_sched_rings.specs.Answers.{HasStepped};
 ghost use Rattle.strc_sched_rings.specs.Words.{WantsWordOfStep};
 
 use crate::lanes::MOST_PARTED;
-use crate::lanes::frame::LaneFrame;
 use std::alloc::Global;
 use strc_elab_graph::graph::Fission;
 use strc_elab_graph::rates::body_at;
 use strc_lex_names::memory::NoMemory;
 use strc_parse_tree::tree::ItemType;
+use strc_sched_filters::lanes::frame::LaneFrame;
 use strc_sched_rings::copy::copy_pops;
 use strc_sched_rings::ring::{Ring, count_at, give_to, take_from, window_at};
 use strc_work::firing::{Fire, StartError};

@@ -4,8 +4,8 @@
 // firing, and each change of a machine by its owner is just what is said of it.
 // Stands on strc_sched_laws, whose definitions say what a run over rings is, on strc_sched_rings,
 // whose circuits it runs and which moves items over rings, on strc_sched_orders, whose units it
-// fires, on strc_work, whose codes it fires, and on strc_work_lanes, which runs a code for many
-// firings at once.
+// fires, on strc_work, whose codes it fires, and on strc_sched_filters, which fires a code many
+// times at once.
 #![tactic(auto)]
 
 mod access;
@@ -16,9 +16,8 @@ mod chains;
 mod filter;
 mod forwarded_items;
 mod forwarding_list;
-mod identity;
 mod kept_state;
-pub mod lanes;
+mod lanes;
 pub mod laws;
 pub mod machine;
 mod part_machine;

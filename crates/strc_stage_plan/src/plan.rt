@@ -53,6 +53,8 @@ struct Shared {
     round_counts: Counts,
     schedule: Schedule,
     split: Split,
+    /// The path of each node of `graph` in its stream. Contracts see nothing of it.
+    paths: Vec<Vec<u8>>,
 }
 
 impl Drop for Shared {
@@ -63,6 +65,7 @@ impl Drop for Shared {
             round_counts: _,
             schedule: _,
             split: _,
+            paths: _,
         } = self;
     }
 }
@@ -93,7 +96,8 @@ impl Plan {
     /// without a fault, `check` is Ok for each, and there are no scatters, copies or gathers; the
     /// counts are the graph's least ones, as `startup` and `balance` give them, and the schedule is
     /// that of these counts, as `schedule` gives it. What is run is what `fission` makes of the
-    /// graph and the schedule, with its round fused by `fuse_round`.
+    /// graph and the schedule, with its round fused by `fuse_round`. The paths are those of the
+    /// graph's nodes in its stream.
     pub fn new(
         alloc: Global,
         graph: Graph,
@@ -101,6 +105,7 @@ impl Plan {
         round_counts: Counts,
         schedule: Schedule,
         split: Split,
+        paths: Vec<Vec<u8>>,
     ) -> Result<Plan, NoMemory>
         requires { IsPlan (parts_of graph startup_counts round_counts schedule split) }
         ensures { IfOk result (λ plan. plan
@@ -112,6 +117,7 @@ impl Plan {
             round_counts,
             schedule,
             split,
+            paths,
         };
         Ok(Plan {
             shared: Arc::new(alloc, shared)?,
@@ -214,6 +220,11 @@ impl Plan {
         ensures { result.now ≡ self.now.split.origins }
     {
         self.shared().split.origins()
+    }
+
+    /// The path of each node of `graph` in its stream, for those who read of it.
+    pub fn paths(&self) -> &[Vec<u8>] {
+        &self.shared().paths
     }
 
     /// What is known of each plan, together.

@@ -66,8 +66,8 @@ fn batches_give_what_rounds_give(rt: HostRuntime) -> Result<(), Fail> {
     let input = [1, 2, 3, 4, 5, 6, 7, 8, 9];
     for (workers, batching) in SHARINGS {
         let sharing = Sharing { workers, batching };
-        let outcome = run_shared(&rt, rt.alloc(), &plan, &input, None, sharing, &OpenGate)?;
-        let values = values_of(rt.alloc(), &outcome)?;
+        let run = run_shared(&rt, rt.alloc(), &plan, &input, None, sharing, &OpenGate)?;
+        let values = values_of(rt.alloc(), &run.outcome)?;
         assert_eq!(rt;
             values.as_slice(),
             [-4, -5, -6, -8, -11, -16, -33].as_slice()
@@ -82,13 +82,13 @@ fn a_fault_in_a_batch_is_that_of_its_round(rt: HostRuntime) -> Result<(), Fail> 
     let input = [6, 7, 8, 9, 10, 11];
     for (workers, batching) in SHARINGS {
         let sharing = Sharing { workers, batching };
-        let outcome = run_shared(&rt, rt.alloc(), &plan, &input, Some(4), sharing, &OpenGate)?;
+        let run = run_shared(&rt, rt.alloc(), &plan, &input, Some(4), sharing, &OpenGate)?;
         let Outcome::Fault {
             node,
             firing,
             round: Round::At(round),
             ..
-        } = outcome
+        } = run.outcome
         else {
             return Err(Fail::from("no fault of a round"));
         };

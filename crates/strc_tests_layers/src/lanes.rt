@@ -1,17 +1,13 @@
 // Small filters, and whether 64 firings of them can be done at once.
 
+use crate::texts::code;
 use std::alloc::Global;
 use std::test::Fail;
-use strc_lex::lexer::lex;
-use strc_parse::parse;
-use strc_parse_tree::tree::StreamTree;
-use strc_sched_machine::lanes::firing::fire_lanes;
-use strc_sched_machine::lanes::frame::LaneFrame;
+use strc_sched_filters::lanes::firing::fire_lanes;
+use strc_sched_filters::lanes::frame::LaneFrame;
 use strc_work::firing::Fire;
-use strc_work::lowering::lower;
 use strc_work_code::code::Code;
 use strc_work_meaning::body::Body;
-use strc_work_meaning::constants::Constants;
 
 // A row a line: the work of a filter with the fields `int x = 3; int[4] a;`, and whether its lanes
 // go together. The items are 1, 2, 3 and so on.
@@ -36,22 +32,6 @@ work push 1 pop 1 { x = pop(); push(x); } => apart
 work push 1 pop 1 { println(1); push(pop()); } => apart
 work push 1 pop 1 { push(a[pop()]); } => apart
 ";
-
-/// The code of the only filter of a text.
-fn code(alloc: Global, text: &str) -> Result<Code, Fail> {
-    let tokens = lex(alloc, text.as_bytes())?;
-    let program = parse(alloc, &tokens)?;
-    let [only] = program.declarations.as_slice() else {
-        return Err(Fail::from("several streams"));
-    };
-    let StreamTree::Filter(filter) = &only.stream else {
-        return Err(Fail::from("a pipeline"));
-    };
-    match lower(alloc, filter, &Constants::new(alloc)) {
-        Ok(code) => Ok(code),
-        Err(_) => Err(Fail::from("lower")),
-    }
-}
 
 /// What 64 firings push, one after another.
 fn pushed(alloc: Global, code: &Code, items: &[i32]) -> Result<Vec<i32>, Fail> {

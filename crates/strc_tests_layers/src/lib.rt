@@ -1,8 +1,8 @@
 // Takes nothing: this crate is tests alone.
 // Gives what no whole program shows: tokens with their places, trees of compositions, limits of
-// heights, firings over given windows, closed peeks, copies of large codes, where filters are
-// refused, graphs of streams, and forms of the command line. There is no theorem here; the values
-// are those of the language's rules.
+// heights, firings over given windows, closed peeks, filters without state, copies of large codes,
+// where filters are refused, graphs of streams, and forms of the command line. There is no theorem
+// here; the values are those of the language's rules.
 // Stands on strc_lex, strc_parse, strc_work, strc_rate and strc_elab_flattening, and for the
 // command line on strc_cli.
 #![tactic(auto)]
@@ -19,6 +19,8 @@ mod lanes;
 mod rates;
 #[cfg(test)]
 mod refusal_places;
+#[cfg(test)]
+mod stateless_filters;
 #[cfg(test)]
 mod texts;
 #[cfg(test)]

@@ -3,7 +3,7 @@
 use std::alloc::{AllocError, Global};
 use std::process::Abort;
 use std::test::Fail;
-use strc_cli_words::line::{Command, Line, LineFault};
+use strc_cli_words::line::{Command, Line, LineFault, SortKey};
 use strc_cli_words::words::{asks_for_help, asks_for_version, command, usage_error};
 
 // What is asked for, in one line: the command and its values, `-` where one isn't given.
@@ -27,20 +27,31 @@ fn reported(alloc: Global, line: &Line) -> Result<String, AllocError> {
             )
         }
         Command::Check { main } => format!(in alloc; "check {file} {}", name_of(main)),
-        Command::Plan { long, main } => {
-            format!(in alloc; "plan {file} {long} {}", name_of(main))
+        Command::Plan { long, sort, main } => {
+            let key = match sort {
+                None => "-",
+                Some(SortKey::Work) => "work",
+                Some(SortKey::Size) => "size",
+            };
+            format!(in alloc; "plan {file} {long} {key} {}", name_of(main))
         }
         Command::Emit { main } => format!(in alloc; "emit {file} {}", name_of(main)),
         Command::Graph {
             workers,
             ways,
             fuse,
+            depth,
+            times: _,
             main,
         } => {
             let workers = number_of(alloc, *workers)?;
             let ways = number_of(alloc, *ways)?;
             let fuse = number_of(alloc, *fuse)?;
-            format!(in alloc; "graph {file} {workers} {ways} {fuse} {}", name_of(main))
+            let depth = number_of(alloc, *depth)?;
+            format!(in alloc;
+                "graph {file} {workers} {ways} {fuse} {depth} {}",
+                name_of(main)
+            )
         }
     }
 }
@@ -90,18 +101,21 @@ strc run --batch=1 a.str => run a.str - 1 1 0 1 false -
 strc run --batch=4096 a.str --rounds 9 => run a.str 9 1 1 0 4096 false -
 strc check a.str => check a.str -
 strc check a.str --main M => check a.str M
-strc plan a.str => plan a.str false -
-strc plan --main=M a.str => plan a.str false M
-strc plan a.str --long => plan a.str true -
-strc plan --long --main M a.str => plan a.str true M
+strc plan a.str => plan a.str false - -
+strc plan --main=M a.str => plan a.str false - M
+strc plan a.str --long => plan a.str true - -
+strc plan --long --main M a.str => plan a.str true - M
+strc plan --sort work a.str => plan a.str false work -
+strc plan --long --sort=size a.str => plan a.str true size -
 strc emit a.str => emit a.str -
 strc emit --main=M a.str => emit a.str M
-strc graph a.str => graph a.str - - - -
-strc graph a.str --main M => graph a.str - - - M
-strc graph --workers 0 a.str => graph a.str 0 - - -
-strc graph a.str --ways 64 => graph a.str - 64 - -
-strc graph a.str --fuse 65536 => graph a.str - - 65536 -
-strc graph --fuse 7 --main M a.str --ways 3 --workers 2 => graph a.str 2 3 7 M
+strc graph a.str => graph a.str - - - - -
+strc graph a.str --main M => graph a.str - - - - M
+strc graph --workers 0 a.str => graph a.str 0 - - - -
+strc graph --depth 2 a.str --times t => graph a.str - - - 2 -
+strc graph a.str --ways 64 => graph a.str - 64 - - -
+strc graph a.str --fuse 65536 => graph a.str - - 65536 - -
+strc graph --fuse 7 --main M a.str --ways 3 --workers 2 => graph a.str 2 3 7 - M
 ";
 
 #[test]
@@ -151,6 +165,9 @@ strc run a.str --ways -1
 strc run a.str --ways many
 strc run a.str --ways
 strc run a.str --ways 2 --ways 2
+strc run a.str --out
+strc check a.str --out T=f
+strc graph a.str --out T=f
 strc emit
 strc emit a.str --rounds 2
 strc emit a.str b.str
@@ -199,6 +216,7 @@ strc run --help => --workers <N>
 strc run --help => --ways <N>
 strc run --help => --fuse <N>
 strc run --help => --stats
+strc run --help => --out <NAME=FILE>
 strc graph -h => Graphviz
 strc graph -h => --ways <N>
 ";
@@ -232,5 +250,65 @@ fn the_version_is_asked_for_anywhere(rt: HostRuntime) -> Result<(), Fail> {
     assert!(rt; asks_for_version(&["strc", "--version"]));
     assert!(rt; asks_for_version(&["strc", "run", "-V"]));
     assert!(rt; !asks_for_version(&["strc", "run", "version"]));
+    Ok(())
+}
+
+// The tapes that go to files, each with its file.
+const OUTS: &str = "\
+strc run a.str --out T=f => T to f
+strc run --out T=f a.str --out U=g --rounds 2 => T to f, U to g
+strc run a.str --out=T.2=f=g --live=false => -
+strc run a.str --out T.2=f=g => T.2 to f=g
+strc run a.str --out=U==g => U to =g
+strc run a.str --live => none
+strc check a.str => none
+";
+
+// Tapes that can't go to files, by a part of what is said of them.
+const OTHER_OUTS: &str = "\
+strc run a.str --out T => NAME=FILE
+strc run a.str --out =f => NAME=FILE
+strc run a.str --out T= => NAME=FILE
+strc run a.str --out T=f --out = => NAME=FILE
+strc run a.str --out T=f --out U=g --out T=h => one tape
+strc run a.str --out T=f --live => '--live'
+";
+
+fn outs_told(alloc: Global, line: &Line) -> Result<String, AllocError> {
+    let mut told = String::new(alloc);
+    for out in line.outs.iter() {
+        if !told.is_empty() {
+            told.push_str(", ")?;
+        }
+        told.push_str(out.tape.as_str())?;
+        told.push_str(" to ")?;
+        told.push_str(out.file.as_str())?;
+    }
+    if told.is_empty() {
+        told.push_str("none")?;
+    }
+    Ok(told)
+}
+
+#[test]
+fn tapes_go_to_files(rt: HostRuntime) -> Result<(), Fail> {
+    for row in OUTS.lines() {
+        let (text, wanted) = row.split_once(" => ").ok_or("a row without two parts")?;
+        let words = words_of(rt.alloc(), text)?;
+        let told = match command(rt.alloc(), words.as_slice()) {
+            Ok(line) => outs_told(rt.alloc(), &line)?,
+            Err(_) => String::from_str(rt.alloc(), "-")?,
+        };
+        assert_eq!(rt; told.as_str(), wanted, "at {text}");
+    }
+    for row in OTHER_OUTS.lines() {
+        let (text, part) = row.split_once(" => ").ok_or("a row without two parts")?;
+        let words = words_of(rt.alloc(), text)?;
+        let fault = command(rt.alloc(), words.as_slice())
+            .err()
+            .ok_or("no fault")?;
+        let said = format!(in rt.alloc(); "{fault}")?;
+        assert!(rt; said.as_str().contains(part), "at {text}: {said}");
+    }
     Ok(())
 }

@@ -31,5 +31,3 @@ mod small_graphs;
 mod splits;
 #[cfg(test)]
 mod stages;
-#[cfg(test)]
-mod stateless_filters;

@@ -2,7 +2,8 @@
 // with what they are to write.
 // Takes the files of the folder that it runs in. A case is a text NAME.str and its words NAME.args,
 // the command first; its input NAME.in, if it has one; what it writes, NAME.out; the status it ends
-// with, NAME.status, if that isn't 0; and what a person reads of it, NAME.message, if there is one.
+// with, NAME.status, if that isn't 0; what a person reads of it, NAME.message, if there is one; and
+// where tapes go to files, NAME.files, each file's text after a line with its name.
 // Where a case's text is run by one worker, it is to come to the same by several, with copies, with
 // fused units and by batches of rounds. A case with a file NAME.pieces is broken at each place too:
 // its text cut at each byte, and devices that take so many bytes at a time failing at each call. A
@@ -10,7 +11,7 @@
 // Gives a line for each case that differs, and at the end how many do; and the same of the places
 // at which cases were broken, of devices that fail or take little at a time, and of runs whose
 // stages step in threads. There is no theorem here; the values are those of the language's rules.
-// Stands on strc_cli, whose `command` and `execute_explained` it calls.
+// Stands on strc_cli and strc_out_files, whose `execute_explained` and `execute_out` it calls.
 #![tactic(auto)]
 
 mod broken;
@@ -20,6 +21,7 @@ mod stage_steps;
 use crate::broken::run_broken;
 use crate::devices::run_devices;
 use crate::stage_steps::run_stages;
+use std::alloc::Global;
 use std::io::ErrorKind;
 use std::process::ExitCode;
 use std::sync::Wait;
@@ -27,13 +29,18 @@ use std::thread::{Builder, Threads};
 use std::{fs, io, thread};
 use strc_cli::answer::main_name;
 use strc_cli::execute::Status;
-use strc_cli::explanation::execute_explained;
-use strc_cli_input::device::Told;
+use strc_cli::explanation::{Explained, execute_explained};
+use strc_cli_diagnostics::message::Message;
+use strc_cli_diagnostics::message_json::{Severity, message_json};
+use strc_cli_diagnostics::message_text::message_text;
+use strc_cli_input::device::{Sink, Source, Told};
 use strc_cli_input::watched_input::WatchedInput;
-use strc_cli_lint::lint::lint_message;
-use strc_cli_words::line::{Command, Line, LineFault};
+use strc_cli_lint::lint::lint_messages;
+use strc_cli_words::line::{Command, Format, Line, LineFault, Out};
 use strc_cli_words::words::command;
-use strc_run_links::{OpenGate, StageTimes};
+use strc_out_files::execute_out::execute_out;
+use strc_run_links::{Gate, OpenGate, StageTimes};
+use strc_stage_steps::Stage;
 
 // The status of a command line that isn't understood, as of the program's.
 const WORDS: u8 = 1;
@@ -62,7 +69,7 @@ const NO_MEMORY: u8 = 4;
 const FAILED: u8 = 5;
 
 // The room for calls in one another, as of the program: the deepest texts need it.
-const STACK: usize = 0x1000_0000;
+const STACK: usize = 0x2000_0000;
 
 /// What a program writes, the status that it ends with, and what a person reads of it.
 #[derive(Drop)]
@@ -70,6 +77,8 @@ struct Answer {
     output: Vec<u8>,
     status: u8,
     message: Vec<u8>,
+    /// The text of each file after a line with its name.
+    files: Vec<u8>,
 }
 
 // Runs on a thread with the room that the program gives itself.
@@ -171,6 +180,7 @@ fn compare<T: Threads + Wait + Sync>(
         output: part(rt, name, "out")?,
         status: wanted_status(rt, name)?,
         message: part_if_there(rt, name, "message")?,
+        files: part_if_there(rt, name, "files")?,
     };
     let given = String::from_utf8_lossy(rt.alloc(), &part(rt, name, "args")?)?;
     if !is_answer(rt, name, &wanted, &found_answer(rt, threads, name, &given)?)? {
@@ -227,6 +237,10 @@ fn is_answer(rt: &HostRuntime, title: &str, wanted: &Answer, found: &Answer) -> 
         print_difference(rt, title, &wanted.output, &found.output)?;
         return Ok(false);
     }
+    if found.files != wanted.files {
+        print_difference(rt, title, &wanted.files, &found.files)?;
+        return Ok(false);
+    }
     if found.status != wanted.status {
         println!(rt;
             "{title}: wanted status {}, got {}",
@@ -268,6 +282,7 @@ fn found_answer<T: Threads + Wait + Sync>(
             output: Vec::new(rt.alloc()),
             status: WORDS,
             message: Vec::new(rt.alloc()),
+            files: Vec::new(rt.alloc()),
         });
     };
     let text = part(rt, name, "str")?;
@@ -286,8 +301,8 @@ fn line_of(rt: &HostRuntime, name: &str, given: &str) -> io::Result<Option<Line>
     }
     match command(alloc, &words) {
         Ok(line) => Ok(Some(line)),
-        Err(LineFault::Words) => Ok(None),
         Err(LineFault::Memory) => Err(io::Error::from(ErrorKind::OutOfMemory)),
+        Err(_) => Ok(None),
     }
 }
 
@@ -306,49 +321,88 @@ fn answer_to<T: Threads + Wait + Sync>(
     let mut output = Told::new(Vec::new(alloc));
     let file = format!(in alloc; "{name}.str")?;
     // The gate that measures lets each step through as the open one does.
-    let explained = if let Command::Run { stats: true, .. } = command {
+    let (explained, files) = if let Command::Run { stats: true, .. } = command {
         let times = StageTimes::new(alloc, rt)?;
-        execute_explained(
-            threads,
-            alloc,
-            &file,
-            text,
-            command,
-            &mut input,
-            &mut output,
-            &times,
-        )
+        executed(rt, threads, text, line, &mut input, &mut output, &times)?
     } else {
-        execute_explained(
-            threads,
-            alloc,
-            &file,
-            text,
-            command,
-            &mut input,
-            &mut output,
-            &OpenGate,
-        )
+        executed(rt, threads, text, line, &mut input, &mut output, &OpenGate)?
     };
-    let mut message = explained.message;
+    let mut message = Vec::new(alloc);
+    if let Some(told) = &explained.message {
+        let code = explained.code.as_deref().unwrap_or(b"");
+        let telling = (Severity::Error, code);
+        message.extend_from_slice(&written(alloc, line.format, &file, text, telling, told)?)?;
+    }
     if let Ok(Status::Refused) = explained.result {
         message.extend_from_slice(&input.wrong_word_line(alloc)?)?;
     }
     if line.lint && matches!(explained.result, Ok(Status::Done)) {
-        let Ok(doubts) = lint_message(alloc, &file, text, main_name(command)) else {
+        let Ok(doubts) = lint_messages(alloc, text, main_name(command)) else {
             return Err(io::Error::from(ErrorKind::OutOfMemory));
         };
-        message.extend_from_slice(&doubts)?;
+        for doubt in &doubts {
+            let telling = (Severity::Warning, b"lint".as_slice());
+            message.extend_from_slice(&written(alloc, line.format, &file, text, telling, doubt)?)?;
+        }
     }
     match explained.result {
         Ok(status) => Ok(Answer {
             output: output.into_device(),
             status: status.number(),
             message,
+            files,
         }),
         // Devices in memory fail only where there is no more of it.
         Err(_) => Err(io::Error::from(ErrorKind::OutOfMemory)),
     }
+}
+
+/// A message in this form, with its severity and its code.
+fn written(
+    alloc: Global,
+    format: Format,
+    file: &str,
+    text: &[u8],
+    (severity, code): (Severity, &[u8]),
+    message: &Message,
+) -> io::Result<Vec<u8>> {
+    match format {
+        Format::Text => Ok(message_text(alloc, file, text, message)?),
+        Format::Json => Ok(message_json(alloc, file, text, severity, code, message)?),
+    }
+}
+
+/// What is told of a text and an input, and the files that are written.
+fn executed<G: Gate<Stage>, T: Threads + Wait + Sync, I: Source, O: Sink>(
+    rt: &HostRuntime,
+    threads: &T,
+    text: &[u8],
+    line: &Line,
+    input: &mut I,
+    output: &mut O,
+    gate: &G,
+) -> io::Result<(Explained, Vec<u8>)> {
+    let alloc = rt.alloc();
+    let command = &line.command;
+    if line.outs.is_empty() {
+        let explained = execute_explained(threads, alloc, text, command, input, output, gate);
+        return Ok((explained, Vec::new(alloc)));
+    }
+    let outs = &line.outs;
+    let report = execute_out(threads, alloc, text, command, outs, input, output, gate);
+    let files = files_text(rt, outs, &report.texts)?;
+    Ok((report.explained, files))
+}
+
+/// The text of each file that is written, after a line with its name.
+fn files_text(rt: &HostRuntime, outs: &[Out], texts: &[Vec<u8>]) -> io::Result<Vec<u8>> {
+    let mut files = Vec::new(rt.alloc());
+    for (out, text) in outs.iter().zip(texts) {
+        let title = format!(in rt.alloc(); "file {}\n", out.file.as_str())?;
+        files.extend_from_slice(title.as_bytes())?;
+        files.extend_from_slice(text)?;
+    }
+    Ok(files)
 }
 
 /// The status that the case is to end with.

@@ -95,13 +95,11 @@ fn firings_keep_fields_and_print(rt: HostRuntime) -> Result<(), Fail> {
 fn a_start_may_fault(rt: HostRuntime) -> Result<(), Fail> {
     let alloc = rt.alloc();
     let code = code_of(alloc, "int x = 1 / 0; work push 1 pop 1 { push(pop()); }")?;
-    let is_fault = matches!(
-        code.start(alloc),
-        Err(StartError::ConstFault {
-            cause: Cause::DivZero
-        })
-    );
-    assert!(rt; is_fault);
+    let Err(StartError::ConstFault { cause }) = code.start(alloc) else {
+        return Err("the division by zero has a value".into());
+    };
+    assert_eq!(rt; cause.cause(), Cause::DivZero);
+    assert!(rt; cause.byte().is_some());
     Ok(())
 }
 

@@ -5,40 +5,21 @@
 // strc_run gives the plans and the outcomes of one worker.
 #![tactic(auto)]
 
-mod collectors;
 #[cfg(test)]
 mod counts;
 #[cfg(test)]
 mod dice;
 #[cfg(test)]
 mod gates;
-mod idle_stages;
-#[cfg(test)]
-mod links;
 #[cfg(test)]
 mod orders;
 #[cfg(test)]
 mod outcome_text;
 #[cfg(test)]
-mod parcels;
-#[cfg(test)]
-mod pipe_ends;
-mod pipes;
-#[cfg(test)]
 mod programs;
-#[cfg(test)]
-mod rendezvous;
 #[cfg(test)]
 mod rings;
 #[cfg(test)]
 mod steps;
 #[cfg(test)]
-mod toy_rings;
-#[cfg(test)]
-mod toy_stages;
-#[cfg(test)]
 mod workers;
-
-pub use collectors::Counter;
-pub use idle_stages::Idle;
-pub use pipes::ring;

@@ -20,16 +20,16 @@ use strc_work_instructions::io::FiringIo;
 use strc_work_instructions::port::FiringPort;
 use strc_work_instructions::window::Window;
 use strc_work_meaning::body::Body;
-use strc_work_meaning::fault::{Cause, Halt};
+use strc_work_meaning::fault::{Cause, Halt, LocatedCause, Trapped};
 use strc_work_meaning::word::Word;
 use thiserror::Error;
 
 /// Why a filter can't start.
-#[derive(Clone, Copy, Debug, Error)]
+#[derive(Debug, Drop, Error)]
 pub enum StartError {
     /// An initialiser faults, or `init` does.
-    #[error("an initialiser or init faults: {cause}")]
-    ConstFault { cause: Cause },
+    #[error("an initialiser or init faults: {why}", why = cause_of(.cause))]
+    ConstFault { cause: LocatedCause },
     /// Memory was refused.
     #[error("out of memory for the fields of a filter")]
     NoMemory,
@@ -134,7 +134,7 @@ fn start_code(code: &Code, alloc: Global) -> Result<State, StartError>
         &mut saved,
     ) {
         Ok(()) => Ok(State { slots, fields }),
-        Err(halt) => Err(start_error(halt)),
+        Err(halt) => Err(start_error(halt, io.trapped())),
     }
 }
 
@@ -191,12 +191,21 @@ fn fire_code<W: Window>(
     result
 }
 
-/// What a halt means at the start.
-fn start_error(halt: Halt) -> StartError
+/// Why a start faults.
+fn cause_of(cause: &LocatedCause) -> Cause
+    ensures { result ≡ cause.now }
+{
+    cause.cause()
+}
+
+/// What a halt means at the start, where this is known of what trapped.
+fn start_error(halt: Halt, trapped: Trapped) -> StartError
     ensures { result ≡ start_error_of halt }
 {
     match halt {
-        Halt::Fault(cause) => StartError::ConstFault { cause },
+        Halt::Fault(cause) => StartError::ConstFault {
+            cause: LocatedCause::new(cause, trapped),
+        },
         Halt::NoMemory => StartError::NoMemory,
     }
 }

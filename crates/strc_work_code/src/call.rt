@@ -15,6 +15,8 @@ pub struct Call {
     pub first: u32,
     pub count: u32,
     pub into: u32,
+    /// Where it is written, as `Origin::mark` tells it.
+    pub mark: u32,
     pub place: Option<usize>,
 }
 
@@ -35,6 +37,7 @@ impl Call {
             first: self.first,
             count: self.count,
             into: self.into,
+            mark: self.mark,
             place,
         })
     }

@@ -72,6 +72,7 @@ impl FiringIo {
         self.popped = 0;
         self.pushed = 0;
         self.turns = 0;
+        self.trapped = Trapped::nothing();
         mem::swap(&mut self.words, words);
     }
 
@@ -102,6 +103,41 @@ impl FiringIo {
             self.trapped = Trapped { mark, index, count };
         }
         answer
+    }
+
+    /// The same answer; where it is a turn too many, of this loop or in it, and nothing is noted of
+    /// a loop inside, it is noted where the loop is written.
+    #[inline(always)]
+    pub fn looped(&mut self, answer: Result<(), Trap>, mark: u32) -> Result<(), Trap>
+        ensures answer { result ≡ answer }
+        ensures unchanged { self.new ≡ self.old }
+    {
+        if let Err(Trap::Turns) = answer {
+            self.note_first(mark);
+        }
+        answer
+    }
+
+    /// The same answer; where it is a call too many, this one or one inside, and nothing is noted
+    /// of one inside, it is noted where the call is written.
+    #[inline(always)]
+    pub fn called(&mut self, answer: Result<(), Trap>, mark: u32) -> Result<(), Trap>
+        ensures answer { result ≡ answer }
+        ensures unchanged { self.new ≡ self.old }
+    {
+        if let Err(Trap::Calls) = answer {
+            self.note_first(mark);
+        }
+        answer
+    }
+
+    /// Notes a mark where none is noted.
+    fn note_first(&mut self, mark: u32)
+        ensures { self.new ≡ self.old }
+    {
+        if self.trapped.mark == 0 {
+            self.trapped.mark = mark;
+        }
     }
 
     /// What was noted of the instruction that trapped; nothing where none has, or where it wasn't

@@ -117,6 +117,7 @@ fn emit_call(
         first: free,
         count: end - free,
         into,
+        mark: mark_of_name(name),
         place: None,
     };
     code.put_node(Node::Call(call))

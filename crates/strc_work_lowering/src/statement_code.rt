@@ -20,6 +20,7 @@ use crate::layout::Layout;
 use crate::operands::{cells_of, slot_past, zeros_step};
 use strc_lex_names::memory::NoMemory;
 use strc_lex_names::name::Name;
+use strc_parse_tree::operator::Origin;
 use strc_parse_tree::tree::{Expr, Stmt, Variable};
 use strc_work_code::inst::Inst;
 use strc_work_code::returns::stmt_returns;
@@ -64,19 +65,24 @@ fn emit_after(
     ensures names { OnOk result (names.new ≡ names_after names.old (stmt_view statement.now)) }
 {
     if !returns {
-        return emit_stmt(code, names, statement);
+        return emit_stmt(code, names, statement, 0);
     }
     let answer = answer_slot(names);
     let mut apart = Builder::new(names.allocator());
-    emit_stmt(&mut apart, names, statement)?;
+    emit_stmt(&mut apart, names, statement, 0)?;
     let nothing = Builder::new(names.allocator());
     code.put_choice(answer, nothing, apart)
 }
 
-/// The code of a statement.
+/// The code of a statement, which is written at this mark: 0 where that isn't known.
 #[cycle(statement)]
 #[tactic(auto, using(strc_work_code::proofs::Nodes::before_end))]
-fn emit_stmt(code: &mut Builder, names: &mut Layout, statement: &Stmt) -> Result<(), NoMemory>
+fn emit_stmt(
+    code: &mut Builder,
+    names: &mut Layout,
+    statement: &Stmt,
+    mark: u32,
+) -> Result<(), NoMemory>
     ensures code { OnOk result (written code.new
         ≡ before (written code.old) (spec.stmt_nodes names.old (stmt_view statement.now))) }
     ensures names { OnOk result (names.new ≡ names_after names.old (stmt_view statement.now)) }
@@ -84,7 +90,7 @@ fn emit_stmt(code: &mut Builder, names: &mut Layout, statement: &Stmt) -> Result
     match statement {
         Stmt::Empty | Stmt::Compose(_) => Ok(()),
         Stmt::Block(body) => emit_block(code, names, body),
-        Stmt::Placed(_, inner) => emit_stmt(code, names, inner),
+        Stmt::Placed(place, inner) => emit_stmt(code, names, inner, Origin::at(place.start).mark()),
         Stmt::Declare(declared) => {
             emit_variables(code, names, cells_of(&declared.kind), &declared.variables)
         }
@@ -105,10 +111,10 @@ fn emit_stmt(code: &mut Builder, names: &mut Layout, statement: &Stmt) -> Result
         }
         Stmt::While(condition, body) => {
             let turn = emit_apart(names, body)?;
-            emit_while(code, names, condition, stmt_returns(body), turn)
+            emit_while(code, names, condition, stmt_returns(body), turn, mark)
         }
         Stmt::For(first, condition, step, body) => {
-            emit_for(code, names, first, condition, step, body)
+            emit_for(code, names, first, condition, step, body, mark)
         }
         Stmt::Push(value) => emit_output(code, names, Output::Push, value),
         Stmt::Print(value) => emit_output(code, names, Output::Print, value),
@@ -117,7 +123,7 @@ fn emit_stmt(code: &mut Builder, names: &mut Layout, statement: &Stmt) -> Result
     }
 }
 
-/// The code of a `for`: its first statement is seen in all of it.
+/// The code of a `for` at this mark: its first statement is seen in all of it.
 #[cycle(statement)]
 #[tactic(auto, using(crate::proofs::Emitted::statements))]
 fn emit_for(
@@ -127,6 +133,7 @@ fn emit_for(
     condition: &Option<Expr>,
     step: &Stmt,
     body: &Stmt,
+    mark: u32,
 ) -> Result<(), NoMemory>
     ensures code { OnOk result (written code.new ≡ before (written code.old)
         (spec.stmt_nodes names.old (tree.For (stmt_view first.now)
@@ -134,11 +141,11 @@ fn emit_for(
     ensures names { OnOk result (names.new ≡ names.old) }
 {
     let start = names.len();
-    emit_stmt(code, names, first)?;
+    emit_stmt(code, names, first, 0)?;
     let mut turn = emit_apart(names, body)?;
     let returns = stmt_returns(body);
     emit_step(&mut turn, names, returns, step)?;
-    emit_loop(code, names, condition, returns, turn)?;
+    emit_loop(code, names, condition, returns, turn, mark)?;
     names.leave(start);
     Ok(())
 }
@@ -185,7 +192,7 @@ fn emit_inside(code: &mut Builder, names: &mut Layout, statement: &Stmt) -> Resu
     ensures names { OnOk result (names.new ≡ names.old) }
 {
     let start = names.len();
-    emit_stmt(code, names, statement)?;
+    emit_stmt(code, names, statement, 0)?;
     names.leave(start);
     Ok(())
 }
@@ -208,13 +215,14 @@ fn emit_choice(
     code.put_choice(slot, chosen, other)
 }
 
-/// The code of a loop whose turns are known, with a condition.
+/// The code of a loop at this mark whose turns are known, with a condition.
 fn emit_while(
     code: &mut Builder,
     names: &Layout,
     condition: &Expr,
     returns: bool,
     turn: Builder,
+    mark: u32,
 ) -> Result<(), NoMemory>
     ensures { OnOk result (written code.new ≡ before (written code.old)
         (Loop (spec.loop_test names.now returns (Some (expr_view condition.now)))
@@ -226,19 +234,20 @@ fn emit_while(
         let mut held = Builder::new(names.allocator());
         emit_expr(&mut held, names, condition, free, names.after(free)?)?;
         emit_test_unless_answered(&mut test, names, held)?;
-        return code.put_loop(test, free, turn);
+        return code.put_loop(test, free, turn, mark);
     }
     let slot = emit_operand(&mut test, names, condition, true, free)?;
-    code.put_loop(test, slot, turn)
+    code.put_loop(test, slot, turn, mark)
 }
 
-/// The code of a loop whose turns are known, with a condition or without one.
+/// The code of a loop at this mark whose turns are known, with a condition or without one.
 fn emit_loop(
     code: &mut Builder,
     names: &Layout,
     condition: &Option<Expr>,
     returns: bool,
     turn: Builder,
+    mark: u32,
 ) -> Result<(), NoMemory>
     ensures { OnOk result (written code.new ≡ before (written code.old)
         (Loop (spec.loop_test names.now returns (option_map expr_view condition.now))
@@ -246,7 +255,7 @@ fn emit_loop(
         (written turn) End)) }
 {
     if let Some(condition) = condition {
-        return emit_while(code, names, condition, returns, turn);
+        return emit_while(code, names, condition, returns, turn, mark);
     }
     let mut test = Builder::new(names.allocator());
     let free = names.total();
@@ -258,7 +267,7 @@ fn emit_loop(
         // A loop without a condition goes on.
         test.put(Inst::Const(free, 1))?;
     }
-    code.put_loop(test, free, turn)
+    code.put_loop(test, free, turn, mark)
 }
 
 /// The code of a loop's test, which doesn't hold once the helper has returned; else what is held is

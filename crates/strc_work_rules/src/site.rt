@@ -3,14 +3,16 @@
 
 use strc_lex_names::place::Span;
 use strc_parse_tree::tree::CompositeKind;
+use strc_work_meaning::fault::Trapped;
 use strc_work_meaning::types::ValueType;
 
-/// The part of a text that breaks a rule, and which rule of types, kinds and parts it breaks, as
-/// far as these are known.
+/// The part of a text that breaks a rule, which rule of types, kinds and parts it breaks, and what
+/// trapped where a filter faults at its start, as far as these are known.
 #[derive(Clone, Copy)]
 pub struct Site {
     pub place: Option<Span>,
     pub mismatch: Option<Mismatch>,
+    pub trapped: Trapped,
 }
 
 impl Site {
@@ -19,6 +21,7 @@ impl Site {
         Site {
             place: None,
             mismatch: None,
+            trapped: Trapped::nothing(),
         }
     }
 
@@ -27,6 +30,16 @@ impl Site {
         Site {
             place: None,
             mismatch: Some(mismatch),
+            trapped: Trapped::nothing(),
+        }
+    }
+
+    /// What trapped is known alone.
+    pub fn trapped(trapped: Trapped) -> Site {
+        Site {
+            place: None,
+            mismatch: None,
+            trapped,
         }
     }
 
@@ -38,6 +51,7 @@ impl Site {
                 None => place,
             },
             mismatch: self.mismatch,
+            trapped: self.trapped,
         }
     }
 }

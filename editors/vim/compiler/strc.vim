@@ -3,5 +3,5 @@ if exists("current_compiler")
   finish
 endif
 let current_compiler = "strc"
-CompilerSet makeprg=strc\ check\ %:S
-CompilerSet errorformat=%f:%l:%c:\ %m,%-G%.%#
+CompilerSet makeprg=strc\ check\ --lint\ %:S
+CompilerSet errorformat=%f:%l:%c:\ %tarning:\ %m,%f:%l:%c:\ %m,%-G%.%#

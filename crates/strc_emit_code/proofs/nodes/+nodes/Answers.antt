@@ -100,4 +100,4 @@ push_node-returns-in_ok-push_node-in-While-2 t c =
     c.deref-in-While-2.ensures))
     c.push_end-in-While.ensures)
     (sym (while_text f d c.args.node.now c.in-While.first c.in-While.condition c.in-While.body
-    c.in-While.is))
+    c.in-While.field-3 c.in-While.is))

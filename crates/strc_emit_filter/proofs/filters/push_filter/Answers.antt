@@ -23,9 +23,12 @@ returns c =
     c.in_ok-fields.ensures
     ∙ ap (helper_function c.args.node (length values) arrays) c.in_ok-names.ensures in
     on_ok_weaker c.push_parts.result (λ is. (
-      filter_text function (not (has_helpers filter)) values helpers prework work,
+      filter_text function c.in_ok-tests.tests (not (has_helpers filter)) values helpers prework
+          work,
       record {
         arrays = arrays;
+        tests = c.in_ok-tests.tests;
+        untested = c.in_ok-tests.ensures;
         helpers = helpers;
         prework = prework;
         work = work;
@@ -33,11 +36,16 @@ returns c =
         prework_is = c.prework_of.ensures;
         work_is = c.routine.ensures.code;
         limits_are = c.routine.ensures.limits;
+        found = c.in_ok-arrays.ensures helpers prework work (record {
+          helpers_are = c.helpers-helpers.ensures.are;
+          prework_is = c.prework_of.ensures;
+          work_is = c.routine.ensures.code;
+        });
         text_is = refl;
       },
       is
-          ∙ ap (λ (other : Function). begun ++ filter_text other (not c.has_helpers.result) values
-          helpers prework work) same
-          ∙ ap (λ b. begun ++ filter_text function (not b) values helpers prework work)
-          c.has_helpers.ensures,
+          ∙ ap (λ (other : Function). begun ++ filter_text other c.in_ok-tests.tests
+          (not c.has_helpers.result) values helpers prework work) same
+          ∙ ap (λ b. begun ++ filter_text function c.in_ok-tests.tests (not b) values helpers
+          prework work) c.has_helpers.ensures,
     )) c.push_parts.ensures

@@ -18,13 +18,14 @@ returns c =
     let so_far_2 : c.push_helpers.new.text.items ≡ begun ++ (p1 ++ p2) = both begun
     c.push_fields.new.text.items c.push_helpers.new.text.items p1 p2 c.in_ok-push_fields.ensures
     c.in_ok-push_helpers.ensures in
-    let p3 : List ℕ = prework_text c.args.function c.args.alone (option_map (λ routine.
+    let p3 : List ℕ = prework_text c.args.function c.args.tests c.args.alone (option_map (λ routine.
     routine.now) c.args.prework) in
     let so_far_3 : c.push_prework.new.text.items ≡ begun ++ ((p1 ++ p2) ++ p3) = both begun
     c.push_helpers.new.text.items c.push_prework.new.text.items (p1 ++ p2) p3 so_far_2
     (c.in_ok-function.ensures.text) in
-    let p4 : List ℕ = body_text (body_function c.args.function c.args.work.now.limits) (codes
-    "work") c.args.alone c.args.work.now.code in
+    let p4 : List ℕ = body_text
+    (body_function c.args.function c.args.tests c.args.work.now.limits) (codes "work") c.args.alone
+    c.args.work.now.code in
     last c.push_body.result begun c.push_prework.new.text.items c.push_body.new.text.items ((p1
     ++ p2) ++ p3) p4 so_far_3 (subst (λ (other : Function). OnOk c.push_body.result
     (c.push_body.new.text.items ≡ c.push_prework.new.text.items ++ body_text other (codes "work")

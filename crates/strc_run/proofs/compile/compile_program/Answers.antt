@@ -22,8 +22,8 @@ use Rattle.strc_balance.specs.Balance.{count_at}
 use Rattle.strc_run.proofs.PlannedGraphs.{graph_has_plan}
 use Rattle.strc_run.proofs.compile.compile_program.Goals as goal
 
-pub returns-in_err-stream-clause-plan : goal.returns-in_err-stream-clause-plan
-returns-in_err-stream-clause-plan c = λ text spells.
+pub returns-in_err-stream-clause-compiled : goal.returns-in_err-stream-clause-compiled
+returns-in_err-stream-clause-compiled c = λ text spells.
     let broken = c.in_err-stream.ensures.verdict in
     refusal_passed _ _ c.from_residual.result c.in_err-stream.field-0.0 (refusal_of broken.0)
     c.from_residual.ensures.1 broken.2 (elaboration_refused _ _ _ spells broken.0 broken.1)
@@ -34,8 +34,8 @@ returns-in_err-stream-clause-known c = passed_on
     c.from_residual.result c.in_err-stream.field-0.0 c.from_residual.ensures.1
     c.in_err-stream.ensures.known
 
-pub returns-in-Err-clause-plan : goal.returns-in-Err-clause-plan
-returns-in-Err-clause-plan c = λ text spells.
+pub returns-in-Err-clause-compiled : goal.returns-in-Err-clause-compiled
+returns-in-Err-clause-compiled c = λ text spells.
     let elaborates = c.in_ok-stream.ensures.verdict in
     let sound = c.in_ok-stream.ensures.sound in
     refusal_told _ _ _
@@ -43,8 +43,8 @@ returns-in-Err-clause-plan c = λ text spells.
     (graph_refused _ _ _ spells _ elaborates c.in-Err.error
     (c.in-Err.ensures.verdict sound.closed.typed))
 
-pub returns-in-Err-check_rates-clause-plan : goal.returns-in-Err-check_rates-clause-plan
-returns-in-Err-check_rates-clause-plan c = λ text spells.
+pub returns-in-Err-check_rates-clause-compiled : goal.returns-in-Err-check_rates-clause-compiled
+returns-in-Err-check_rates-clause-compiled c = λ text spells.
     let elaborates = c.in_ok-stream.ensures.verdict in
     let sound = c.in_ok-stream.ensures.sound in
     let same = ap (map node_view) c.nodes.ensures ∙ c.in-Ok.ensures.nodes in
@@ -69,8 +69,8 @@ balance-requires-clause-connected c =
     let sound = c.in_ok-stream.ensures.sound in
     c.in-Ok.ensures.connected sound.closed.typed
 
-pub returns-in-Err-balance-clause-plan : goal.returns-in-Err-balance-clause-plan
-returns-in-Err-balance-clause-plan c = λ text spells.
+pub returns-in-Err-balance-clause-compiled : goal.returns-in-Err-balance-clause-compiled
+returns-in-Err-balance-clause-compiled c = λ text spells.
     let elaborates = c.in_ok-stream.ensures.verdict in
     let sound = c.in_ok-stream.ensures.sound in
     let rates = ap (rates_checked 0) (sym
@@ -94,8 +94,8 @@ startup-requires c =
     (ap (rates_checked 0) (sym (ap (map node_view) c.nodes.ensures))
     ∙ c.in_default.ensures)
 
-pub returns-in-Err-startup-clause-plan : goal.returns-in-Err-startup-clause-plan
-returns-in-Err-startup-clause-plan c = λ text spells.
+pub returns-in-Err-startup-clause-compiled : goal.returns-in-Err-startup-clause-compiled
+returns-in-Err-startup-clause-compiled c = λ text spells.
     let elaborates = c.in_ok-stream.ensures.verdict in
     let sound = c.in_ok-stream.ensures.sound in
     let rates = ap (rates_checked 0) (sym
@@ -124,8 +124,8 @@ schedule-requires-clause-connected c =
     let sound = c.in_ok-stream.ensures.sound in
     c.in-Ok.ensures.connected sound.closed.typed
 
-pub returns-in-Err-schedule-clause-plan : goal.returns-in-Err-schedule-clause-plan
-returns-in-Err-schedule-clause-plan c = λ text spells.
+pub returns-in-Err-schedule-clause-compiled : goal.returns-in-Err-schedule-clause-compiled
+returns-in-Err-schedule-clause-compiled c = λ text spells.
     let elaborates = c.in_ok-stream.ensures.verdict in
     let sound = c.in_ok-stream.ensures.sound in
     let rates = ap (rates_checked 0) (sym
@@ -166,8 +166,8 @@ transformed-requires-clause-whole c =
     c.args.ways sound.closed.typed (c.in-Ok.ensures.program sound.closed) c.in-Ok.ensures.loops
     c.in-Ok-schedule.ensures.schedule
 
-pub returns-in-Err-transformed-clause-plan : goal.returns-in-Err-transformed-clause-plan
-returns-in-Err-transformed-clause-plan c = λ text spells.
+pub returns-in-Err-transformed-clause-compiled : goal.returns-in-Err-transformed-clause-compiled
+returns-in-Err-transformed-clause-compiled c = λ text spells.
     let elaborates = c.in_ok-stream.ensures.verdict in
     let sound = c.in_ok-stream.ensures.sound in
     let rates = ap (rates_checked 0) (sym
@@ -232,36 +232,38 @@ new-requires c =
       transformed = c.in-Ok-transformed.ensures.transformed;
     })
 
-pub returns-clause-plan : goal.returns-clause-plan
-returns-clause-plan c = λ text spells.
+pub returns-clause-compiled : goal.returns-clause-compiled
+returns-clause-compiled c = λ text spells.
     let sound = c.in_ok-stream.ensures.sound in
     let nodes = c.in-Ok.ensures.nodes in
     let checks = ap (rates_checked 0) (sym (ap (map node_view) c.nodes.ensures))
-    ∙ c.in_default.ensures in
-    plan_reported text _ c.in_ok-plan.plan _ c.in_ok-plan.ensures (record {
-      accepted = record {
-        program = _;
-        spells = spells;
-        stream = stream_view c.in_ok-stream.stream;
-        elaborates = c.in_ok-stream.ensures.verdict;
-        runs = c.in-Ok.ensures.verdict sound.closed.typed;
-        rates = ap (rates_checked 0) (sym nodes) ∙ checks;
-        flat = c.in-Ok.ensures.graph sound.closed.typed;
-        round = c.in-Ok-balance.ensures.verdict;
-        startup = record {
-          least = c.in-Ok-startup.ensures.least;
-          within = c.in-Ok-startup.ensures.within;
+    ∙ c.in_default.ensures in (
+      plan_reported text _ c.in_ok-plan.plan _ c.in_ok-plan.ensures (record {
+        accepted = record {
+          program = _;
+          spells = spells;
+          stream = stream_view c.in_ok-stream.stream;
+          elaborates = c.in_ok-stream.ensures.verdict;
+          runs = c.in-Ok.ensures.verdict sound.closed.typed;
+          rates = ap (rates_checked 0) (sym nodes) ∙ checks;
+          flat = c.in-Ok.ensures.graph sound.closed.typed;
+          round = c.in-Ok-balance.ensures.verdict;
+          startup = record {
+            least = c.in-Ok-startup.ensures.least;
+            within = c.in-Ok-startup.ensures.within;
+          };
+          schedule = record {
+            is = c.in-Ok-schedule.ensures.schedule;
+            within = c.in-Ok-schedule.ensures.within;
+          };
+          transformed = c.in-Ok-transformed.ensures.transformed;
+          loops = c.in-Ok.ensures.loops;
         };
-        schedule = record {
-          is = c.in-Ok-schedule.ensures.schedule;
-          within = c.in-Ok-schedule.ensures.within;
-        };
-        transformed = c.in-Ok-transformed.ensures.transformed;
-        loops = c.in-Ok.ensures.loops;
-      };
-      whole = c.in-Ok.ensures.program sound.closed;
-      nodes = nodes;
-    })
+        whole = c.in-Ok.ensures.program sound.closed;
+        nodes = nodes;
+      }),
+      record { program = _; spells = spells; elaborates = c.in_ok-stream.ensures.verdict },
+    )
 
 pub returns-in-Err-clause-known : goal.returns-in-Err-clause-known
 returns-in-Err-clause-known c =
@@ -305,8 +307,8 @@ returns-in-Err-transformed-clause-known c = λ some.
     c.of_graph-in-Err-transformed.ensures
     (c.in-Ok.ensures.graph c.in_ok-stream.ensures.sound.closed.typed)
 
-pub returns-in_err-plan-clause-plan : goal.returns-in_err-plan-clause-plan
-returns-in_err-plan-clause-plan c = λ text spells.
+pub returns-in_err-plan-clause-compiled : goal.returns-in_err-plan-clause-compiled
+returns-in_err-plan-clause-compiled c = λ text spells.
     refusal_passed _ _ c.from_residual-in_err-plan.result (unplaced NoMemory) NoMemory
     c.from_residual-in_err-plan.ensures.1 refl tt
 
@@ -314,4 +316,15 @@ pub returns-in_err-plan-clause-known : goal.returns-in_err-plan-clause-known
 returns-in_err-plan-clause-known c = passed_on
     (IsKnownOf c.args.program.now (option_map (λ n. n.now) c.args.main))
     c.from_residual-in_err-plan.result (unplaced NoMemory) c.from_residual-in_err-plan.ensures.1
+    (λ some. absurd (some refl))
+
+pub returns-in_err-paths-clause-compiled : goal.returns-in_err-paths-clause-compiled
+returns-in_err-paths-clause-compiled c = λ text spells.
+    refusal_passed _ _ c.from_residual-in_err-paths.result (unplaced NoMemory) NoMemory
+    c.from_residual-in_err-paths.ensures.1 refl tt
+
+pub returns-in_err-paths-clause-known : goal.returns-in_err-paths-clause-known
+returns-in_err-paths-clause-known c = passed_on
+    (IsKnownOf c.args.program.now (option_map (λ n. n.now) c.args.main))
+    c.from_residual-in_err-paths.result (unplaced NoMemory) c.from_residual-in_err-paths.ensures.1
     (λ some. absurd (some refl))

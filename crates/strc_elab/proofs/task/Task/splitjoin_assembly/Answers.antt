@@ -7,7 +7,7 @@ use Rattle.strc_elab_statements.specs.Splits.{split_view}
 use Rattle.strc_elab.specs.Elaboration as spec
 use Rattle.strc_elab_statements.specs.Sides.{inputs_in, outputs_in, any_side}
 use Rattle.strc_elab_statements.specs.Weights.{split_dealt, join_dealt}
-use Rattle.strc_elab.proofs.Composites.{splitjoin_done, joins_refused}
+use Rattle.strc_elab.proofs.Composites.{splitjoin_done, joins_refused, splits_refused}
 use Rattle.strc_elab.specs.Places.{splitjoin_place}
 use Rattle.strc_elab.proofs.AssemblyPlaces.{second_step, splitjoin_place-parts}
 use Rattle.strc_elab.proofs.task.Task.splitjoin_assembly.Goals as goal
@@ -86,3 +86,25 @@ returns-in_err-joiner-in-Some-Some c =
           (join_view progress.join) (progress_of progress) progress.trace split join some parted
           joined) splits no c.in_err-joiner-in-Some-Some.ensures.place);
     }
+
+pub returns-in_err-splitter-in-Some-Some-clause-verdict :
+    goal.returns-in_err-splitter-in-Some-Some-clause-verdict
+returns-in_err-splitter-in-Some-Some-clause-verdict c =
+    let p = err_from_is_err_and c.from_residual-in_err-splitter-in-Some-Some.result
+    c.from_residual-in_err-splitter-in-Some-Some.ensures.1 in
+    let e = c.in_err-splitter-in-Some-Some.field-0.0.error in
+    let declaration = c.args.self.now.declaration in
+    let progress = c.args.progress.now in
+    let types = progress.types.items in
+    let split = split_view c.in-Some-Some.split in
+    let some : length types ≡ 0 → ⊥ = search rules in
+    let inputs : c.in_ok-inputs-in-Some-Some.inputs.items ≡ inputs_in types =
+    c.in_ok-inputs-in-Some-Some.ensures ∙ ap inputs_in c.deref.ensures.value in
+    let no : IsRefusal (split_dealt declaration split (inputs_in types)) e =
+    subst (λ l. IsRefusal (split_dealt declaration split l) e)
+    (c.deref-in-Some-Some-2.ensures.value ∙ inputs)
+    c.in_err-splitter-in-Some-Some.ensures.verdict in
+    rw (p.1, p.2) (splits_refused declaration c.args.written types
+    (option_map split_view progress.split) (join_view progress.join) (progress_of progress) split
+    c.in-Some-Some.join.items e some (ap (option_map split_view) c.in-Some-Some.is-0)
+    (ap join_view c.in-Some-Some.is-1) no)

@@ -1,0 +1,4 @@
+pub mod Places
+pub mod Excerpts
+pub mod Messages
+pub mod Diagnostics

@@ -1,0 +1,11 @@
+use Rattle.strc_cli_pictures.specs.Parts.{startup_share}
+use Rattle.strc_cli_pictures.proofs.Shares.{one_share_more}
+use Rattle.strc_cli_pictures.proofs.parts.startup_shares.Goals as goal
+
+pub loop-number-preserved : goal.loop-number-preserved
+loop-number-preserved c =
+    one_share_more startup_share c.args.nodes.now c.args.origins.now c.args.counts.now
+    c.loop-number.number c.index-nodes-number.result c.startup_share.result
+    c.count_before-count.result c.loop-number.shares.items c.push.new.self.items
+    c.loop-number-test.true c.index-nodes-number.is c.count_before-count.ensures
+    c.startup_share.ensures c.loop-number.invariant c.in_ok-push.ensures.items

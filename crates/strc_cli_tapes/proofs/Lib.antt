@@ -1,0 +1,2 @@
+pub mod PartedTapes
+pub mod ToldApart

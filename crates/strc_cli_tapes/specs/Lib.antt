@@ -1,0 +1,2 @@
+pub mod TapeNames
+pub mod Parted

@@ -1,0 +1,4 @@
+mod Wrapping
+mod Dividing
+mod Shifting
+mod Operators
