@@ -38,7 +38,7 @@ use Rattle.strc_sched_laws.specs.Simulation.{Simulates}
 use Rattle.strc_sched_laws.proofs.Nodes.{nodes_push_rates}
 use Rattle.strc_stage_core.specs.Events.{is_over, before}
 use Rattle.strc_stage_core.specs.States.{Start, Core, IsState}
-use Rattle.strc_stage_core.specs.declared.stop.Stop.{Stop}
+use Rattle.strc_sched_outcome.specs.declared.stop.Stop.{Stop}
 use Rattle.strc_stage_core.specs.Parcels.{Load, ParcelView}
 use Rattle.strc_fiss.specs.declared.split.Origin as parts
 use Rattle.strc_fuse.proofs.Counting.{firings_same}

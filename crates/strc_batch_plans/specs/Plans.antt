@@ -20,7 +20,7 @@ use Rattle.strc_sched_laws.specs.Machine.{rounds_run}
 use Rattle.strc_sched_laws.specs.RingAnswer.{Tells}
 use Rattle.strc_stage_core.specs.Events.{is_over, before}
 use Rattle.strc_stage_core.specs.States.{Start, Core, IsState}
-use Rattle.strc_stage_core.specs.declared.stop.Stop.{Stop}
+use Rattle.strc_sched_outcome.specs.declared.stop.Stop.{Stop}
 use Rattle.strc_stage_core.specs.Parcels.{Load, ParcelView}
 use Rattle.strc_fuse.specs.Units.{round_units}
 use Rattle.strc_stage_plan.specs.Cuts.{segment_of, units_within}

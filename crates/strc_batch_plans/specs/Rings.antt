@@ -15,8 +15,8 @@ use Rattle.strc_sched_laws.specs.Fits.{Queues}
 use Rattle.strc_sched_laws.specs.Machine.{CircuitView, MachineView}
 use Rattle.strc_stage_core.specs.Events.{is_over}
 use Rattle.strc_stage_core.specs.States.{Start, Core, IsState}
-use Rattle.strc_stage_core.specs.declared.stop.Stop.{Stop}
-use Rattle.strc_stage_core.specs.declared.stop.Stop.TheVariants as stop
+use Rattle.strc_sched_outcome.specs.declared.stop.Stop.{Stop}
+use Rattle.strc_sched_outcome.specs.declared.stop.Stop.TheVariants as stop
 use Rattle.strc_stage_core.specs.Parcels.{Load}
 use Rattle.strc_stage_plan.specs.Cuts.{segment_of}
 use Rattle.strc_stage_steps.specs.Beginnings.{IsBeginning}

@@ -6,7 +6,7 @@ use Rattle.strc_work_meaning.specs.declared.fault.Cause.{Cause}
 use Rattle.strc_work_meaning.specs.declared.word.Word.{Word}
 use Rattle.strc_elab_graph.specs.Graphs.{NodeCode}
 use Rattle.strc_sched.specs.Serving.{round_limit}
-use Rattle.strc_sched_machine.specs.declared.machine.Stop.TheVariants as stops
+use Rattle.strc_sched_outcome.specs.declared.stop.Stop.TheVariants as stops
 use Rattle.strc_sched_outcome.specs.declared.outcome.Round.{Round}
 use Rattle.strc_sched_outcome.specs.declared.outcome.Round.TheVariants as round
 use Rattle.strc_stage_plan.specs.Plans.{PlanParts, transformed_of}

@@ -7,7 +7,7 @@ use Rattle.strc_elab_graph.specs.FlatGraphs.{IsProgram}
 use Rattle.strc_elab_graph.specs.Graphs.{NodeCode}
 use Rattle.strc_elab_graph.specs.Tapes.{tape_nodes}
 use Rattle.strc_sched.specs.Serving.{round_limit}
-use Rattle.strc_sched_machine.specs.declared.machine.Stop.TheVariants as stop
+use Rattle.strc_sched_outcome.specs.declared.stop.Stop.TheVariants as stop
 use Rattle.strc_sched_outcome.specs.declared.outcome.Round.TheVariants as round
 use Rattle.strc_stage_plan.specs.Named.{old_node}
 use Rattle.strc_stage_plan.specs.Plans.{PlanParts, graph_of, transformed_of}

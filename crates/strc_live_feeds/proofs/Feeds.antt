@@ -2,7 +2,7 @@
 use Rattle.std.proofs.Common.{◌≡◌, ℕ, suc, ◌+◌, ◌<◌, ◌^◌, ℤ, List, ◌++◌, length}
 use Rattle.std.proofs.Common.{Option, sym, ap, ◌∙◌, subst, arith}
 use Rattle.strc_work_meaning.specs.declared.word.Word.{Word}
-use Rattle.strc_sched_machine.specs.declared.machine.Stop.TheVariants as stop
+use Rattle.strc_sched_outcome.specs.declared.stop.Stop.TheVariants as stop
 use Rattle.strc_stage_plan.specs.Plans.{PlanParts}
 use Rattle.strc_cli_input.specs.NumberReading.{HasPulled, IsWithin}
 use Rattle.strc_live_plans.specs.Readers.{each_of}

@@ -1,8 +1,8 @@
 -- Live runs that are fed from the input.
 use Rattle.std.specs.Prelude.{◌≡◌, ℕ, ◌+◌, ◌<◌, ℤ, List, ◌++◌, length, Option, Some, None}
 use Rattle.strc_work_meaning.specs.declared.word.Word.{Word}
-use Rattle.strc_sched_machine.specs.declared.machine.Stop.{Stop}
-use Rattle.strc_sched_machine.specs.declared.machine.Stop.TheVariants as stop
+use Rattle.strc_sched_outcome.specs.declared.stop.Stop.{Stop}
+use Rattle.strc_sched_outcome.specs.declared.stop.Stop.TheVariants as stop
 use Rattle.strc_stage_plan.specs.Plans.{PlanParts}
 use Rattle.strc_cli_input.specs.NumberReading.{HasPulled, HasPulledAll, IsWithin, WritesUpTo}
 use Rattle.strc_live_plans.specs.Readers.{each_of}

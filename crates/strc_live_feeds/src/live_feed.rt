@@ -13,7 +13,7 @@ use strc_cli_input::input::ReadStop;
 use strc_cli_input::number_reader::NumberReader;
 use strc_live_runs::laws::live_runs_read_on;
 use strc_live_runs::live_run::LiveRun;
-use strc_sched_machine::machine::Stop;
+use strc_sched_outcome::stop::Stop;
 use strc_work_meaning::fault::LocatedCause;
 use strc_work_meaning::word::Word;
 

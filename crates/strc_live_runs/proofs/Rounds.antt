@@ -15,8 +15,8 @@ use Rattle.strc_sched_machine.specs.Running.{without_words}
 use Rattle.strc_sched_machine.specs.declared.batches.Batch.{Batch}
 use Rattle.strc_sched_machine.specs.declared.batches.Order.{Order}
 use Rattle.strc_sched_machine.specs.declared.machine.Machine.{Machine}
-use Rattle.strc_sched_machine.specs.declared.machine.Stop.{Stop}
-use Rattle.strc_sched_machine.specs.declared.machine.Stop.TheVariants as stop
+use Rattle.strc_sched_outcome.specs.declared.stop.Stop.{Stop}
+use Rattle.strc_sched_outcome.specs.declared.stop.Stop.TheVariants as stop
 use Rattle.strc_stage_plan.specs.Plans.{PlanParts}
 use Rattle.strc_stage_steps.specs.Plans.{ComesToAnswer, Suffices}
 use Rattle.strc_live_laws.specs.Live.{more_past, renewed}

@@ -11,8 +11,8 @@ use Rattle.strc_sched_laws.specs.Machine.{CircuitView, MachineView}
 use Rattle.strc_sched_rings.specs.Circuits.{circuit_view}
 use Rattle.strc_sched_machine.specs.Batches.{IsOrderOf, units_of}
 use Rattle.strc_sched_machine.specs.Running.{IsMachine, machine_view}
-use Rattle.strc_sched_machine.specs.declared.machine.Stop.{Stop}
-use Rattle.strc_sched_machine.specs.declared.machine.Stop.TheVariants as stop
+use Rattle.strc_sched_outcome.specs.declared.stop.Stop.{Stop}
+use Rattle.strc_sched_outcome.specs.declared.stop.Stop.TheVariants as stop
 use Rattle.strc_stage_plan.specs.Plans.{PlanParts, graph_of}
 use Rattle.strc_stage_steps.specs.Plans.{ComesToAnswer, Suffices}
 use Rattle.strc_live_laws.specs.Windows.{window}

@@ -19,7 +19,8 @@ use crate::window::swap_input;
 use std::alloc::Global;
 use strc_live_plans::{live_plans_fault, live_plans_go_on};
 use strc_sched_machine::batches::Order;
-use strc_sched_machine::machine::{Machine, Stop};
+use strc_sched_machine::machine::Machine;
+use strc_sched_outcome::stop::Stop;
 use strc_sched_rings::circuit::Circuit;
 use strc_work_meaning::word::Word;
 

@@ -5,7 +5,7 @@ use Rattle.strc_sched_laws.specs.Machine.{CircuitView, MachineView}
 use Rattle.strc_sched_orders.specs.Firings.{Firings}
 use Rattle.strc_stage_core.specs.Parcels.{Load}
 use Rattle.strc_stage_core.specs.States.{Start}
-use Rattle.strc_stage_core.specs.declared.stop.Stop.{Stop}
+use Rattle.strc_sched_outcome.specs.declared.stop.Stop.{Stop}
 use Rattle.strc_stage_steps.specs.Beginnings.{IsBeginning, IsStageOf}
 use Rattle.strc_stage_steps.specs.Runnings.{Running}
 use Rattle.strc_stage_steps.specs.Steps.{Gathered, StageState}

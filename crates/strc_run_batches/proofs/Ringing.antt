@@ -32,8 +32,8 @@ use Rattle.strc_sched_machine.specs.declared.machine.Machine.{Machine}
 use Rattle.strc_stage_core.specs.Actors as actors
 use Rattle.strc_stage_core.specs.Parcels.{Load}
 use Rattle.strc_stage_core.specs.States.{Start}
-use Rattle.strc_stage_core.specs.declared.stop.Stop.{Stop}
-use Rattle.strc_stage_core.specs.declared.stop.Stop.TheVariants as stop
+use Rattle.strc_sched_outcome.specs.declared.stop.Stop.{Stop}
+use Rattle.strc_sched_outcome.specs.declared.stop.Stop.TheVariants as stop
 use Rattle.strc_stage_plan.specs.Plans.{PlanParts, graph_of, transformed_of}
 use Rattle.strc_stage_steps.specs.Beginnings.{IsBeginning}
 use Rattle.strc_stage_steps.specs.Collectors.{total_of}

@@ -8,13 +8,13 @@ use Rattle.strc_sched_laws.specs.Machine.{CircuitView, MachineView}
 use Rattle.strc_sched_outcome.specs.declared.outcome.Outcome.{Outcome}
 use Rattle.strc_sched_outcome.specs.declared.outcome.Outcome.TheVariants.{Done}
 use Rattle.strc_sched_outcome.specs.declared.outcome.Tape.{Tape}
-use Rattle.strc_stage_core.specs.declared.stop.Stop.{Stop}
-use Rattle.strc_stage_core.specs.declared.stop.Stop.TheVariants as stop
+use Rattle.strc_sched_outcome.specs.declared.stop.Stop.{Stop}
+use Rattle.strc_sched_outcome.specs.declared.stop.Stop.TheVariants as stop
 use Rattle.strc_stage_plan.specs.Plans.{PlanParts}
 use Rattle.strc_stage_steps.specs.Collectors.{total_of}
 use Rattle.strc_stage_steps.specs.declared.collector.CollectorParts.{CollectorParts}
 use Rattle.strc_stage_cut.specs.Launches.{IsRingOf, start_of}
-use Rattle.strc_stage_cut.specs.declared.stage_ring.Ring.{Ring}
+use Rattle.strc_stage_cut.specs.Launches.{Ring}
 use Rattle.strc_stage.specs.Running.{EndsSo}
 use Rattle.strc_run_workers.specs.Leftovers.{Drives}
 use Rattle.strc_batch_plans.specs.Plans.{WentThrough}

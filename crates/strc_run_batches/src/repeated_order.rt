@@ -14,7 +14,8 @@ ghost use Rattle.strc_run_batches.specs.Batched.{NeverGoes};
 use std::alloc::Global;
 use strc_lex_names::memory::NoMemory;
 use strc_sched_machine::batches::{Order, order_of};
-use strc_sched_machine::machine::{Machine, Stop};
+use strc_sched_machine::machine::Machine;
+use strc_sched_outcome::stop::Stop;
 use strc_sched_rings::circuit::Circuit;
 use strc_stage_plan::plan::Plan;
 

@@ -2,14 +2,14 @@
 use Rattle.std.proofs.Common.{◌≡◌, refl, sym, ap, subst, ◌∙◌, List, [], ◌∷◌, ◌++◌, map}
 use Rattle.std.proofs.Common.{Option, option_to_list}
 use Rattle.strc_stage_core.specs.Actors.{Stage, Collector, Work, Step, Collects}
-use Rattle.strc_stage_core.specs.States.{Runs, Chained, IsStart, IsState}
-use Rattle.strc_stage_core.specs.declared.stop.Stop.{Stop}
+use Rattle.strc_stage_core.specs.Moves.{queues}
+use Rattle.strc_stage_core.specs.Seeing.{start_of, core_of_parts}
+use Rattle.strc_stage_core.specs.States.{Core, Runs, Chained, IsStart, IsState}
+use Rattle.strc_sched_outcome.specs.declared.stop.Stop.{Stop}
 use Rattle.strc_stage_core.specs.Parcels.{ParcelView, Load}
-use Rattle.strc_run_links.specs.declared.shapes.Start.{Start}
-use Rattle.strc_run_links.specs.declared.shapes.Part.{Part}
-use Rattle.strc_run_links.specs.declared.shapes.Parts.{Parts}
-use Rattle.strc_run_links.specs.States.{Chain, IsRing}
-use Rattle.strc_run_links.specs.Cores.{turned, start_of, core_of_parts}
+use Rattle.strc_stage_core.specs.declared.ring.Start.{Start}
+use Rattle.strc_stage_core.specs.declared.ring.Parts.{Parts}
+use Rattle.strc_run_links.specs.States.{Chain, IsRing, Part, turned}
 
 -- Steps, each of them seen as another.
 seen_runs : {A B : Type 0} (Acts : A → ParcelView → A → ParcelView → Type 0)
@@ -24,11 +24,16 @@ seen_runs Acts Seen view one a (p ∷ ps) (q ∷ qs) b runs =
 seen_runs Acts Seen view one a [] (q ∷ qs) b runs = absurd runs
 seen_runs Acts Seen view one a (p ∷ ps) [] b runs = absurd runs
 
+twice : {A B D : Type 0} (g : B → D) (f : A → B) (l : List A)
+    → map g (map f l) ≡ map (λ x. g (f x)) l
+twice g f [] = refl
+twice g f (x ∷ xs) = ap (λ l. g (f x) ∷ l) (twice g f xs)
+
 module _ {S : Type 0} where
   -- The link before these parts, `link` being the one past them, and those after it, up to `last`.
   link_before : List (Part S) → List ParcelView → List ParcelView
   link_before [] link = link
-  link_before (p ∷ ps) link = p.queue.items
+  link_before (p ∷ ps) link = p.queue
 
   links_after : List (Part S) → List ParcelView → List ParcelView → List (List ParcelView)
   links_after [] link last = last ∷ []
@@ -36,17 +41,17 @@ module _ {S : Type 0} where
 
   all_links : (ps : List (Part S)) (link last : List ParcelView)
       → ◌≡◌ {A = List (List ParcelView)} (link_before ps link ∷ links_after ps link last)
-      ((map (λ part. part.queue.items) ps ++ (link ∷ [])) ++ (last ∷ []))
+      ((map (λ part. part.queue) ps ++ (link ∷ [])) ++ (last ∷ []))
   unfolding link_before links_after
   all_links [] link last = refl
-  all_links (p ∷ ps) link last = ap (λ l. p.queue.items ∷ l) (all_links ps link last)
+  all_links (p ∷ ps) link last = ap (λ l. p.queue ∷ l) (all_links ps link last)
 
   are_turned : (ps : List (Part S)) (link : List ParcelView)
       → ◌≡◌ {A = List (List ParcelView)} (links_after ps link (link_before ps link))
-      (turned (map (λ part. part.queue.items) ps ++ (link ∷ [])))
+      (turned (map (λ part. part.queue) ps ++ (link ∷ [])))
   unfolding link_before links_after
   are_turned [] link = refl
-  are_turned (p ∷ ps) link = all_links ps link p.queue.items
+  are_turned (p ∷ ps) link = all_links ps link p.queue
 
 module _ {S State Total : Type 0} (work : Work State Load Stop Total)
     (Does : S → ParcelView → S → ParcelView → Type 0) (see : S → Stage State Stop)
@@ -91,7 +96,7 @@ module _ {S State Total : Type 0} (work : Work State Load Stop Total)
         → Chain Does stages parts (free ++ given) out → out ≡ taken ++ link
         → (received : List ParcelView)
         × Chained work first free (map see stages) (map (λ part. see part.stage) parts)
-        (turned (map (λ part. part.queue.items) parts ++ (link ∷ [])))
+        (turned (map (λ part. part.queue) parts ++ (link ∷ [])))
         (map (λ part. part.held) parts ++ (hand ∷ [])) collector received received
     unfolding ChainedFrom
     all_round stages parts out chain is =
@@ -103,6 +108,15 @@ module _ {S State Total : Type 0} (work : Work State Load Stop Total)
               (are_turned parts link) (c.2 c.0 (link_before parts link) c.1),
         )
 
+  abbrev core : List (Stage State Stop) → List (List ParcelView)
+      → List (Option ParcelView) → Collector Total Stop → Core State Load Stop Total
+  core stages links hands collector = record {
+    stages = stages;
+    links = links;
+    hands = hands;
+    collector = collector;
+  }
+
   pub ring_state : {C : Type 0} (Gathers : C → ParcelView → C → ParcelView → Type 0)
       (sees : C → Collector Total Stop)
       → ((c : C) (p : ParcelView) (d : C) (q : ParcelView) → Gathers c p d q
@@ -110,14 +124,24 @@ module _ {S State Total : Type 0} (work : Work State Load Stop Total)
       → (start : Start S C) (parts : Parts S C) → IsRing Does Gathers start parts
       → IsStart (start_of see sees start)
       → IsState work (start_of see sees start) (core_of_parts see sees parts)
-  unfolding start_of core_of_parts
   ring_state Gathers sees gathers start parts ring begun =
-      let round = all_round (sees start.collector) (sees parts.collector) parts.held
-      start.free.items ring.1 ring.2 parts.queue.items
-      (seen_runs Gathers (Collects work) sees gathers start.collector ring.1
-      (ring.2 ++ option_to_list parts.held) parts.collector ring.5)
-      start.stages.items parts.parts.items ring.0 ring.3 ring.4 in record {
+      let stages = map (λ (part : Part S). see part.stage) ring.chain in
+      let links = turned (map (λ (part : Part S). part.queue) ring.chain ++ (ring.queue ∷ [])) in
+      let hands = map (λ (part : Part S). part.held) ring.chain ++ (ring.hand ∷ []) in
+      let round = all_round (sees start.collector) (sees parts.collector) ring.hand
+      start.free.items ring.taken ring.given ring.queue
+      (seen_runs Gathers (Collects work) sees gathers start.collector ring.taken
+      (ring.given ++ option_to_list ring.hand) parts.collector ring.gathers)
+      start.stages.items ring.chain (ring.taken ++ ring.queue) ring.chained refl in
+      let state : IsState work (start_of see sees start)
+      (core stages links hands (sees parts.collector)) = record {
         begun = begun;
         taken = round.0;
         chain = round.1;
-      }
+      } in
+      let same : core_of_parts see sees parts ≡ core stages links hands (sees parts.collector) =
+      ap (λ l. core l (queues parts.links.items) parts.held.items (sees parts.collector))
+      (ap (map see) ring.stages_are ∙ twice see (λ (part : Part S). part.stage) ring.chain)
+      ∙ ap (λ l. core stages l parts.held.items (sees parts.collector)) ring.links_are
+      ∙ ap (λ l. core stages links l (sees parts.collector)) ring.hands_are in
+      subst (IsState work (start_of see sees start)) (sym same) state

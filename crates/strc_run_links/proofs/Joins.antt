@@ -6,7 +6,7 @@ use Rattle.strc_run_links.specs.declared.rx.Rx.{Rx}
 use Rattle.strc_run_links.specs.Ends.{sent_by, got_by, IsLink, SameTx, SameRx}
 use Rattle.strc_run_links.specs.declared.worker_end.Worked.{Worked}
 use Rattle.strc_run_links.specs.Working.{put_back, Did}
-use Rattle.strc_run_links.specs.declared.shapes.Start.{Start}
+use Rattle.strc_stage_core.specs.declared.ring.Start.{Start}
 use Rattle.strc_run_links.specs.declared.shapes.Seat.{Seat}
 use Rattle.strc_run_links.specs.declared.shapes.Ready.{Ready}
 use Rattle.strc_run_links.specs.declared.shapes.Ended.{Ended}

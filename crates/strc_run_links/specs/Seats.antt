@@ -1,5 +1,6 @@
 -- Workers on their seats, and after their work.
-use Rattle.std.specs.Prelude.{◌≡◌, ◌++◌, ℕ, zero, suc, List, [], ◌∷◌, All, length, map}
+use Rattle.std.specs.Prelude.{◌≡◌, ◌++◌, ℕ, zero, suc, List, [], ◌∷◌, All, map}
+use Rattle.strc_stage_core.specs.Moves.{queues}
 use Rattle.strc_stage_core.specs.States.{Runs}
 use Rattle.strc_stage_core.specs.Parcels.{ParcelView}
 use Rattle.strc_run_links.specs.declared.tx.Tx.{Tx}
@@ -7,12 +8,12 @@ use Rattle.strc_run_links.specs.declared.rx.Rx.{Rx}
 use Rattle.strc_run_links.specs.Ends.{sent_by, got_by, room_of, IsLink}
 use Rattle.strc_run_links.specs.declared.worker_end.Worked.{Worked}
 use Rattle.strc_run_links.specs.Working.{put_back, stepped, Did}
-use Rattle.strc_run_links.specs.declared.shapes.Start.{Start}
+use Rattle.strc_stage_core.specs.declared.ring.Parts.{Parts}
+use Rattle.strc_stage_core.specs.declared.ring.Start.{Start}
 use Rattle.strc_run_links.specs.declared.shapes.Seat.{Seat}
 use Rattle.strc_run_links.specs.declared.shapes.Ready.{Ready}
 use Rattle.strc_run_links.specs.declared.shapes.Ended.{Ended}
-use Rattle.strc_run_links.specs.declared.shapes.Part.{Part}
-use Rattle.strc_run_links.specs.States.{Chain}
+use Rattle.strc_run_links.specs.States.{AreParts, Chain, Part}
 
 -- From the giver's end of the link before the first seat to the taker's end of that after the last:
 -- nothing has come over the links yet.
@@ -89,3 +90,10 @@ module _ {S : Type 0} (Does : S → ParcelView → S → ParcelView → Type 0) 
       × (stages ≡ done ++ rest)
       × Chain Does done parts sent (sent_by before)
       × AreDone before rest workers last
+
+  -- All workers became parts.
+  pub record AreSettled {C : Type 0} (stages : List S) (parts : Parts S C)
+      (sent out : List ParcelView) : Type 0 where
+    pub chain : List (Part S)
+    pub are_parts : AreParts chain parts.stages.items (queues parts.links.items) parts.held.items
+    pub chained : Chain Does stages chain sent out

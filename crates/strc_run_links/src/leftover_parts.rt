@@ -2,18 +2,19 @@
 
 ghost use Rattle.std.specs.Prelude.{◌≡◌, ◌++◌, [], cond, option_to_list, IfOk};
 ghost use Rattle.strc_run_links.specs.Ends.{sent_by, IsLink};
-ghost use Rattle.strc_run_links.specs.States.{Chain, IsRing};
-ghost use Rattle.strc_run_links.specs.Seats.{AreDone, IsEnded};
+ghost use Rattle.strc_run_links.specs.States.{IsRing};
+ghost use Rattle.strc_run_links.specs.Seats.{AreDone, AreSettled, IsEnded};
 
-use crate::shapes::{Ended, Part, Parts, Start};
-use crate::{Actor, Rx, Tx, Worked, close};
+use crate::shapes::Ended;
+use crate::{Actor, Parts, Rx, Start, Tx, Worked, close};
 use std::alloc::Global;
 use std::snapshot::Snapshot;
 use std::sync::Wait;
 use strc_lex_names::memory::NoMemory;
 use strc_stage_core::Parcel;
 
-/// Closes each link. A misfit is laid back in front of the link that it came from.
+/// Closes each link, and gives what is left on it to the actor before it. A misfit is laid back in
+/// front of the link that it came from.
 pub fn settle<S: Actor, C: Actor, R: Wait>(
     rt: &R,
     alloc: Global,
@@ -31,18 +32,18 @@ pub fn settle<S: Actor, C: Actor, R: Wait>(
         held,
         misfit,
     } = collected;
-    let (parts, tx) = settle_workers(rt, alloc, start, tx, workers, &rx)?;
+    let (mut parts, tx) = settle_workers(rt, alloc, start, tx, workers, &rx, actor)?;
     let left = close(rt, alloc, tx, rx)?;
     let (queue, held) = lay_back(left, held, misfit)?;
-    Ok(Parts {
-        parts,
-        collector: actor,
-        queue,
-        held,
-    })
+    parts.links.push(queue)?;
+    parts.held.push(held)?;
+    // The link before the first stage is the collector's.
+    parts.links.rotate_left(1);
+    Ok(parts)
 }
 
-/// The parts of the stages, and the giver's end of the link after the last.
+/// The stages with the links before them and what they hold, the collector, and the giver's end of
+/// the link after the last stage.
 fn settle_workers<S: Actor, C: Drop, R: Wait>(
     rt: &R,
     alloc: Global,
@@ -50,14 +51,21 @@ fn settle_workers<S: Actor, C: Drop, R: Wait>(
     first: Tx,
     workers: Vec<Worked<S>>,
     last: &Rx,
-) -> Result<(Vec<Part<S>>, Tx), NoMemory>
+    collector: C,
+) -> Result<(Parts<S, C>, Tx), NoMemory>
     requires { AreDone S.does first start.value.stages.items workers.items last.now }
-    ensures { IfOk result (λ r.
-        Chain S.does start.value.stages.items r.0.items (sent_by first) (sent_by r.1)
+    ensures settled { IfOk result (λ r.
+        AreSettled S.does start.value.stages.items r.0 (sent_by first) (sent_by r.1)
         × IsLink r.1 last.now) }
+    ensures collector { IfOk result (λ r. r.0.collector ≡ collector) }
 {
     let mut before = first;
-    let mut parts = Vec::new(alloc);
+    let mut parts = Parts {
+        stages: Vec::new(alloc),
+        links: Vec::new(alloc),
+        held: Vec::new(alloc),
+        collector,
+    };
     for worker in workers {
         let Worked {
             actor,
@@ -68,11 +76,9 @@ fn settle_workers<S: Actor, C: Drop, R: Wait>(
         } = worker;
         let left = close(rt, alloc, before, rx)?;
         let (queue, held) = lay_back(left, held, misfit)?;
-        parts.push(Part {
-            stage: actor,
-            queue,
-            held,
-        })?;
+        parts.stages.push(actor)?;
+        parts.links.push(queue)?;
+        parts.held.push(held)?;
         before = tx;
     }
     Ok((parts, before))

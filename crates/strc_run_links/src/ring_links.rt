@@ -5,12 +5,12 @@ ghost use Rattle.strc_run_links.specs.Ends.{sent_by, got_by, SameTx, IsLink};
 ghost use Rattle.strc_run_links.specs.Seats as seats;
 ghost use Rattle.strc_run_links.specs.Seats.{HasRoom, HaveRoom, IsReady, Linked, stages_of};
 
-use crate::shapes::{Ready, Seat, Start};
+use crate::shapes::{Ready, Seat};
 use crate::{Rx, Tx, link};
 use std::alloc::Global;
 use std::sync::Wait;
 use strc_lex_names::memory::NoMemory;
-use strc_stage_core::Parcel;
+use strc_stage_core::{Parcel, Start};
 
 /// A link before each actor, with room for all the parcels, so that no giver has to wait. The free
 /// ones are laid on the link before the first stage.

@@ -1,15 +1,6 @@
-// What a ring begins with, and what is left of it.
+// A ring's actors with their ends of links, and what they left.
 
 use crate::{Rx, Tx, Worked};
-use strc_stage_core::Parcel;
-
-/// The stages in order, the free parcels, and the collector.
-#[derive(Drop)]
-pub struct Start<S: Drop, C: Drop> {
-    pub stages: Vec<S>,
-    pub free: Vec<Parcel>,
-    pub collector: C,
-}
 
 /// A stage with the ends of the links before and after it.
 #[derive(Drop)]
@@ -33,22 +24,4 @@ pub struct Ready<S: Drop, C: Drop> {
 pub struct Ended<S: Drop, C: Drop> {
     pub workers: Vec<Worked<S>>,
     pub collected: Worked<C>,
-}
-
-/// What is left on a link, the stage after it, and what that one holds.
-#[derive(Drop)]
-pub struct Part<S: Drop> {
-    pub stage: S,
-    pub queue: Vec<Parcel>,
-    pub held: Option<Parcel>,
-}
-
-/// The parts of the stages in order, the collector, what is left on the link before it, and what it
-/// holds.
-#[derive(Drop)]
-pub struct Parts<S: Drop, C: Drop> {
-    pub parts: Vec<Part<S>>,
-    pub collector: C,
-    pub queue: Vec<Parcel>,
-    pub held: Option<Parcel>,
 }

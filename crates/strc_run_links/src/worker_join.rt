@@ -7,8 +7,8 @@ ghost use Rattle.strc_run_links.specs.Seats.{IsReady, IsEnded};
 
 use crate::begun::Child;
 use crate::failure::Failure;
-use crate::shapes::{Ended, Ready, Start};
-use crate::{Actor, Worked};
+use crate::shapes::{Ended, Ready};
+use crate::{Actor, Start, Worked};
 use std::snapshot::Snapshot;
 use std::thread;
 use std::thread::Threads;

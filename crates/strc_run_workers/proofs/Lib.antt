@@ -1,5 +1,3 @@
-pub mod Lists
-pub mod SameRings
 pub mod Rings
 pub mod CodeCrosses
 pub mod StageCrosses

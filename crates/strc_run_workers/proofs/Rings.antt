@@ -6,15 +6,14 @@ use Rattle.strc_sched_outcome.specs.declared.run_refusal.RunRefusal.{RunRefusal}
 use Rattle.strc_sched_outcome.specs.declared.run_refusal.RunRefusal.TheVariants as refused
 use Rattle.strc_stage_core.specs.Actors.{Collects, Collector}
 use Rattle.strc_stage_core.specs.States.{IsStart}
-use Rattle.strc_stage_core.specs.declared.stop.Stop.{Stop}
+use Rattle.strc_sched_outcome.specs.declared.stop.Stop.{Stop}
 use Rattle.strc_stage_plan.specs.Plans.{PlanParts}
 use Rattle.strc_stage_steps.specs.Steps.{Gathered, stage_work}
 use Rattle.strc_stage_steps.specs.Memory.{IsStep}
 use Rattle.strc_stage_steps.specs.Pipes.{Beginning, IsStateOf}
-use Rattle.strc_run_links.specs.Cores as cores
+use Rattle.strc_stage_core.specs.Seeing.{core_of_parts}
 use Rattle.strc_run_links.specs.States.{IsRing}
-use Rattle.strc_run_links.specs.declared.shapes.Parts.{Parts}
-use Rattle.strc_run_links.specs.declared.shapes.Start.{Start}
+use Rattle.strc_stage_core.specs.declared.ring.Parts.{Parts}
 use Rattle.strc_run_links.proofs.Cores.{ring_state}
 use Rattle.strc_stage_steps.specs.Collectors.{sees, total_of}
 use Rattle.strc_stage_steps.specs.Stages.{see}
@@ -23,18 +22,9 @@ use Rattle.strc_stage_steps.specs.declared.stage.StageParts.{StageParts}
 use Rattle.strc_stage_cut.specs.Launches.{IsLaunch, start_of}
 use Rattle.strc_stage_cut.specs.declared.stage_ring.Launch.{Launch}
 use Rattle.strc_stage_cut.specs.declared.stage_ring.Launch.TheVariants as launched
-use Rattle.strc_stage_cut.specs.declared.stage_ring.Ring.{Ring}
+use Rattle.strc_stage_cut.specs.Launches.{Ring}
 use Rattle.strc_stage.specs.Running.{EndsSo, HasEnded, LacksAfter, LacksMeans}
 use Rattle.strc_run_workers.specs.Leftovers.{Drives}
-
--- A ring's start, by whether its actors are done.
-abbrev pub start_done : Ring → Bool → Beginning
-start_done ring done = record {
-  stages = map see ring.stages.items;
-  free = ring.free.items;
-  collector = sees ring.collector;
-  done = done;
-}
 
 module _ (plan : PlanParts) (ring : Ring) (parts : CollectorParts) where
   pub driven_ends : Drives (start_of ring) parts → (outcome : Outcome)
@@ -79,20 +69,11 @@ lacks_so plan input rounds workers launch is (Err refusal) lacks = by_case launc
     by_case launch refused.RoundsNeeded is lacks = absurd lacks
     by_case launch refused.BadWorkers is lacks = absurd lacks
 
--- What a ring's workers begin with.
-abbrev pub seat_of : Ring → Start StageParts CollectorParts
-seat_of ring = record { stages = ring.stages; free = ring.free; collector = ring.collector }
-
-module _ (ring : Ring) (begun : IsStart (start_of ring)) where
-  seen_start : cores.start_of see sees (seat_of ring) ≡ start_of ring
-  unfolding cores.start_of
-  seen_start = ap (start_done ring) begun.finished_is
-
-  -- What workers leave of it is a state of its start.
-  pub left_state : (ended : Parts StageParts CollectorParts)
-      → IsRing IsStep (λ c p d q. Collects stage_work (sees c) p (sees d) q) (seat_of ring) ended
-      → IsStateOf (start_of ring) (cores.core_of_parts see sees ended)
-  left_state ended is =
-      subst (λ start. IsStateOf start (cores.core_of_parts see sees ended)) seen_start
-      (ring_state stage_work _ see (λ s p t q does. does.step) _ sees (λ c p d q gathers. gathers)
-      (seat_of ring) ended is (subst IsStart (sym seen_start) begun))
+-- What workers leave of a ring that has begun is a state of its start.
+pub left_state : (ring : Ring) → IsStart (start_of ring)
+    → (parts : Parts StageParts CollectorParts)
+    → IsRing IsStep (λ c p d q. Collects stage_work (sees c) p (sees d) q) ring parts
+    → IsStateOf (start_of ring) (core_of_parts see sees parts)
+left_state ring begun parts is =
+    ring_state stage_work _ see (λ s p t q does. does.step) _ sees (λ c p d q gathers. gathers)
+    ring parts is begun

@@ -2,8 +2,8 @@
 use Rattle.std.specs.Prelude.{◌≡◌, true}
 use Rattle.strc_stage_core.specs.Events.{is_over}
 use Rattle.strc_stage_steps.specs.Pipes.{Beginning, PipeView, IsStateOf, IsSomeState}
-use Rattle.strc_run_links.specs.Cores.{core_of_parts}
-use Rattle.strc_run_links.specs.declared.shapes.Parts.{Parts}
+use Rattle.strc_stage_core.specs.Seeing.{core_of_parts}
+use Rattle.strc_stage_core.specs.declared.ring.Parts.{Parts}
 use Rattle.strc_stage_steps.specs.Collectors.{sees}
 use Rattle.strc_stage_steps.specs.Stages.{see}
 use Rattle.strc_stage_steps.specs.declared.collector.CollectorParts.{CollectorParts}
@@ -11,7 +11,7 @@ use Rattle.strc_stage_steps.specs.declared.stage.StageParts.{StageParts}
 
 -- What workers leave of a ring is some state of it.
 abbrev pub IsLeft : Parts StageParts CollectorParts → Type 0
-IsLeft ended = IsSomeState (core_of_parts see sees ended)
+IsLeft parts = IsSomeState (core_of_parts see sees parts)
 
 -- From this start some events lead to a state that is over, and to what this collector has come to.
 abbrev pub Drives : Beginning → CollectorParts → Type 0

@@ -10,5 +10,4 @@
 
 pub mod alone;
 mod leftover_ring;
-mod ring_parts;
 pub mod stage_rounds;

@@ -15,13 +15,13 @@ use std::alloc::Global;
 use std::sync::Wait;
 use std::thread::Threads;
 use strc_lex_names::memory::NoMemory;
-use strc_run_links::{Failure, Gate, Start, run_ring};
+use strc_run_links::{Failure, Gate, run_ring};
 use strc_sched_outcome::outcome::Outcome;
 use strc_sched_outcome::run_refusal::RunRefusal;
 use strc_stage::collector_outcome::{faulted, outcome_of};
-use strc_stage_cut::{Launch, Ring, cut, launch};
+use strc_stage_cut::{Launch, cut, launch};
 use strc_stage_plan::plan::Plan;
-use strc_stage_steps::{Collector, Stage};
+use strc_stage_steps::{Collector, Stage, Start};
 
 /// Start-up, and then so many rounds by the stages of the plan for so many workers, one for each of
 /// them or for each group of nodes where these are fewer (Gordon, Thies and Amarasinghe 2006:
@@ -99,7 +99,7 @@ fn run_rounds<G: Gate<Stage>, R: Threads + Wait + Sync>(
     rt: &R,
     alloc: Global,
     plan: &Plan,
-    ring: Ring,
+    ring: Start<Stage, Collector>,
     gate: &G,
 ) -> Result<Outcome, RunRefusal>
     requires start { IsStart (start_of ring) }
@@ -118,22 +118,12 @@ fn run_rounds<G: Gate<Stage>, R: Threads + Wait + Sync>(
 pub fn collected<G: Gate<Stage>, R: Threads + Wait + Sync>(
     rt: &R,
     alloc: Global,
-    ring: Ring,
+    ring: Start<Stage, Collector>,
     gate: &G,
 ) -> Result<Collector, Failure>
     requires start { IsStart (start_of ring) }
     ensures { IfOk result (Drives (start_of ring)) }
 {
-    let Ring {
-        stages,
-        free,
-        collector,
-    } = ring;
-    let start = Start {
-        stages,
-        free,
-        collector,
-    };
-    let ended = run_ring(rt, alloc, start, gate)?;
-    Ok(driven(alloc, ended)?)
+    let parts = run_ring(rt, alloc, ring, gate)?;
+    Ok(driven(alloc, parts)?)
 }

@@ -23,8 +23,8 @@ use Rattle.strc_sched.specs.Plain.{IsEnding, IsStopped}
 use Rattle.strc_sched_machine.specs.Running.{HasGone, HaveMoreWords}
 use Rattle.strc_sched.specs.Tapes.{AreMarked, tapes_from, tapes_of}
 use Rattle.strc_sched_outcome.specs.Tapes.{TapeView, tape}
-use Rattle.strc_sched_machine.specs.declared.machine.Stop.{Stop}
-use Rattle.strc_sched_machine.specs.declared.machine.Stop.TheVariants as stop
+use Rattle.strc_sched_outcome.specs.declared.stop.Stop.{Stop}
+use Rattle.strc_sched_outcome.specs.declared.stop.Stop.TheVariants as stop
 use Rattle.strc_sched_outcome.specs.declared.outcome.Outcome.{Outcome}
 use Rattle.strc_sched_outcome.specs.declared.outcome.Round.TheVariants as round
 use Rattle.strc_sched_outcome.specs.declared.run_refusal.RunRefusal.{RunRefusal}

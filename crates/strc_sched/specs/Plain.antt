@@ -21,8 +21,8 @@ use Rattle.strc_sched_outcome.specs.declared.outcome.Round.{Round}
 use Rattle.strc_sched_outcome.specs.declared.outcome.Round.TheVariants as round
 use Rattle.strc_sched_machine.specs.Actors.{AreClosed}
 use Rattle.strc_sched.specs.Tapes.{tapes_of}
-use Rattle.strc_sched_machine.specs.declared.machine.Stop.{Stop}
-use Rattle.strc_sched_machine.specs.declared.machine.Stop.TheVariants as stop
+use Rattle.strc_sched_outcome.specs.declared.stop.Stop.{Stop}
+use Rattle.strc_sched_outcome.specs.declared.stop.Stop.TheVariants as stop
 use Rattle.strc_sched_outcome.specs.declared.run_refusal.RunRefusal.{RunRefusal}
 use Rattle.strc_sched_outcome.specs.declared.run_refusal.RunRefusal.TheVariants as refused
 

@@ -24,9 +24,10 @@ use std::alloc::Global;
 use strc_elab_graph::graph::{Graph, Node};
 use strc_sched_machine::batches::{Order, order_of};
 use strc_sched_machine::circuit::Circuit;
-use strc_sched_machine::machine::{Machine, Stop};
+use strc_sched_machine::machine::Machine;
 use strc_sched_orders::parts::Schedule;
 use strc_sched_orders::unit::Unit;
+use strc_sched_outcome::stop::Stop;
 use strc_work_meaning::word::Word;
 
 /// Start-up and so many rounds of a schedule, on one thread: each channel is a ring as large as

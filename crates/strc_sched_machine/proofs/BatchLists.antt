@@ -20,8 +20,8 @@ use Rattle.strc_sched_machine.specs.declared.batches.Batch.{Batch}
 use Rattle.strc_sched_machine.specs.declared.batches.Kind.TheVariants as kinds
 use Rattle.strc_sched_machine.specs.declared.batches.Order.{Order}
 use Rattle.strc_sched_machine.specs.declared.batches.BatchList.{BatchList}
-use Rattle.strc_sched_machine.specs.declared.machine.Stop.{Stop}
-use Rattle.strc_sched_machine.specs.declared.machine.Stop.TheVariants as stop
+use Rattle.strc_sched_outcome.specs.declared.stop.Stop.{Stop}
+use Rattle.strc_sched_outcome.specs.declared.stop.Stop.TheVariants as stop
 use Rattle.strc_sched_machine.proofs.Done.{past_nodes}
 
 -- what a place past the end has

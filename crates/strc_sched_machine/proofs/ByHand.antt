@@ -17,8 +17,8 @@ use Rattle.strc_sched_machine.specs.Running.{HasGone, HaveMoreWords}
 use Rattle.strc_sched_machine.specs.declared.batches.Batch.{Batch}
 use Rattle.strc_sched_machine.specs.declared.batches.Kind.TheVariants as kinds
 use Rattle.strc_sched_machine.specs.declared.forwarded_items.Held.{Held}
-use Rattle.strc_sched_machine.specs.declared.machine.Stop.{Stop}
-use Rattle.strc_sched_machine.specs.declared.machine.Stop.TheVariants as stop
+use Rattle.strc_sched_outcome.specs.declared.stop.Stop.{Stop}
+use Rattle.strc_sched_outcome.specs.declared.stop.Stop.TheVariants as stop
 use Rattle.strc_sched_machine.proofs.Batching.{known_kind, passed_between}
 use Rattle.strc_sched_machine.proofs.Done.{done_by, same_view}
 use Rattle.strc_sched_machine.proofs.Held.{all_found, handed_over}

@@ -12,8 +12,8 @@ use Rattle.strc_sched_rings.specs.Words.{HasNextWord}
 use Rattle.strc_sched_machine.specs.Memory.{WantsWordOfOrder, prints_at}
 use Rattle.strc_sched_machine.specs.Running.{HasGone, HaveMoreWords}
 use Rattle.strc_sched_machine.proofs.Done.{more_refl}
-use Rattle.strc_sched_machine.specs.declared.machine.Stop.{Stop}
-use Rattle.strc_sched_machine.specs.declared.machine.Stop.TheVariants as stop
+use Rattle.strc_sched_outcome.specs.declared.stop.Stop.{Stop}
+use Rattle.strc_sched_outcome.specs.declared.stop.Stop.TheVariants as stop
 
 pub more_then : (first second third : List (List Word)) → HaveMoreWords first second
     → HaveMoreWords second third → HaveMoreWords first third

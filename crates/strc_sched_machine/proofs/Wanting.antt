@@ -20,8 +20,8 @@ use Rattle.strc_sched_laws.specs.Steps.{if_found}
 use Rattle.strc_sched_rings.specs.Words.{GivesWords, WantsWordOfStep}
 use Rattle.strc_sched_machine.specs.Memory.{QuietOrdersWantNoMemory}
 use Rattle.strc_sched_machine.specs.Memory.{prints_at}
-use Rattle.strc_sched_machine.specs.declared.machine.Stop.{Stop}
-use Rattle.strc_sched_machine.specs.declared.machine.Stop.TheVariants as stop
+use Rattle.strc_sched_outcome.specs.declared.stop.Stop.{Stop}
+use Rattle.strc_sched_outcome.specs.declared.stop.Stop.TheVariants as stop
 
 -- a list with a word in it
 has_word : (words given : List Word) (next : Word) (rest : List Word) → words ≡ given ++ next ∷ rest

@@ -9,8 +9,8 @@ use Rattle.strc_elab_graph.specs.Rates.{body_at}
 use Rattle.strc_sched_laws.specs.Machine.{CircuitView, MachineView, Went, next_step, order_run}
 use Rattle.strc_sched_rings.specs.Words.{HasNextWord}
 use Rattle.strc_sched_machine.specs.declared.machine.Machine.{Machine}
-use Rattle.strc_sched_machine.specs.declared.machine.Stop.{Stop}
-use Rattle.strc_sched_machine.specs.declared.machine.Stop.TheVariants as stop
+use Rattle.strc_sched_outcome.specs.declared.stop.Stop.{Stop}
+use Rattle.strc_sched_outcome.specs.declared.stop.Stop.TheVariants as stop
 
 -- whether a firing of a copy may give words: where the body of what is copied prints
 abbrev pub copy_prints : CopiedCode → (firing : ℕ) → Bool

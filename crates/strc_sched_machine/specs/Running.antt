@@ -15,8 +15,8 @@ use Rattle.strc_sched_rings.specs.Answers.{AreRings}
 use Rattle.strc_sched_laws.specs.Rings.{Ring}
 use Rattle.strc_sched_laws.specs.Wiring.{PortRings, ports_at}
 use Rattle.strc_sched_machine.specs.declared.machine.Machine.{Machine}
-use Rattle.strc_sched_machine.specs.declared.machine.Stop.{Stop}
-use Rattle.strc_sched_machine.specs.declared.machine.Stop.TheVariants as stop
+use Rattle.strc_sched_outcome.specs.declared.stop.Stop.{Stop}
+use Rattle.strc_sched_outcome.specs.declared.stop.Stop.TheVariants as stop
 
 -- the words of each node
 abbrev pub words_of : List (Vec Word Global) → List (List Word)

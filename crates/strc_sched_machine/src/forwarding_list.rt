@@ -15,9 +15,10 @@ ghost use Rattle.strc_sched_machine.specs.declared.batches.Kind.TheVariants as k
 use crate::actor::Actor;
 use crate::batches::{Batch, Kind};
 use crate::forwarded_items::{Held, fire_by_hand, nothing_held, put_down, take_up};
-use crate::machine::{Machine, Stop};
+use crate::machine::Machine;
 use std::slice::from_ref;
 use strc_elab_graph::graph::Node;
+use strc_sched_outcome::stop::Stop;
 use strc_sched_rings::circuit::Circuit;
 use strc_work_meaning::fault::Halt;
 

@@ -26,6 +26,7 @@ use crate::stateless_nodes::fire_passive;
 use std::alloc::{AllocError, Global};
 use strc_elab_graph::graph::{Copied, Fission, Graph, Node};
 use strc_lex_names::memory::NoMemory;
+use strc_sched_outcome::stop::Stop;
 use strc_sched_rings::circuit::Circuit;
 use strc_sched_rings::copy::fire_identity_copy;
 use strc_sched_rings::ring::{Ring, first_rings};
@@ -45,18 +46,6 @@ pub struct Machine {
     pub(crate) items: Vec<i32>,
     /// The words that each node has given.
     pub(crate) words: Vec<Vec<Word>>,
-}
-
-/// Why a run ends early.
-#[derive(Drop)]
-pub enum Stop {
-    /// A firing of a node, by its number, faulted.
-    Fault {
-        node: u32,
-        firing: u64,
-        cause: LocatedCause,
-    },
-    NoMemory,
 }
 
 impl Machine {

@@ -14,7 +14,7 @@ use Rattle.strc_stage_plan.specs.Plans.{PlanParts, IsPlan, graph_of, transformed
 use Rattle.strc_stage_steps.specs.Plans.{ComesToAnswer, Suffices, need_of}
 use Rattle.strc_stage_steps.proofs.PlanRuns.{plan_faults_answer, plan_rings_answer}
 use Rattle.strc_stage_steps.proofs.PlanRuns.{plan_rounds_answer}
-use Rattle.strc_stage_cut.specs.declared.stage_ring.Ring.{Ring}
+use Rattle.strc_stage_cut.specs.Launches.{Ring}
 use Rattle.strc_stage_cut.specs.Launches.{HasBegun, IsLaunch, bounds_of, start_of}
 use Rattle.strc_stage_cut.specs.Startups.{HasEnded as HasLeft, HasFaulted}
 use Rattle.strc_stage_cut.specs.Bounds.{bound_in, last_of}

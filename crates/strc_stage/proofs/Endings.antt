@@ -11,8 +11,8 @@ use Rattle.strc_sched_outcome.specs.declared.outcome.Outcome.{Outcome}
 use Rattle.strc_sched_outcome.specs.declared.outcome.Outcome.TheVariants as outcome
 use Rattle.strc_sched_outcome.specs.declared.outcome.Round.TheVariants as round
 use Rattle.strc_work_meaning.specs.declared.fault.Cause.{Cause}
-use Rattle.strc_stage_core.specs.declared.stop.Stop.{Stop}
-use Rattle.strc_stage_core.specs.declared.stop.Stop.TheVariants as stops
+use Rattle.strc_sched_outcome.specs.declared.stop.Stop.{Stop}
+use Rattle.strc_sched_outcome.specs.declared.stop.Stop.TheVariants as stops
 use Rattle.strc_stage_steps.specs.Laws.{TellsOutcome}
 use Rattle.strc_stage_steps.specs.Steps.{Gathered}
 use Rattle.strc_stage.specs.Answers.{Answer, IsTold}

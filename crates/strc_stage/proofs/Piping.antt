@@ -12,18 +12,18 @@ use Rattle.strc_sched_laws.specs.Machine.{CircuitView, MachineView}
 use Rattle.strc_sched_orders.specs.declared.unit as units
 use Rattle.strc_stage_plan.specs.Plans.{PlanParts}
 use Rattle.strc_stage_steps.specs.Plans.{need_of}
-use Rattle.strc_stage_steps.specs.Seeing.{Ring}
+use Rattle.strc_stage_core.specs.Seeing.{Ring}
 use Rattle.strc_stage_steps.specs.Collectors.{sees}
 use Rattle.strc_stage_steps.specs.declared.collector.CollectorParts.{CollectorParts}
 use Rattle.strc_stage_steps.specs.declared.stage.StageParts.{StageParts}
 use Rattle.strc_stage_core.proofs.Starting.{first_state}
 use Rattle.strc_stage_core.specs.Parcels.{ParcelView}
-use Rattle.strc_stage_core.specs.declared.stop.Stop.{Stop}
+use Rattle.strc_sched_outcome.specs.declared.stop.Stop.{Stop}
 use Rattle.strc_stage_steps.specs.Steps.{StageState, stage_work}
 use Rattle.strc_stage_steps.specs.Pipes.{Beginning, IsStateOf}
 use Rattle.strc_stage_cut.specs.Launches.{IsLaunch, IsRingOf, bounds_of, start_of}
 use Rattle.strc_stage_cut.specs.Startups.{HasFaulted}
-use Rattle.strc_stage_cut.specs.declared.stage_ring as launching
+use Rattle.strc_stage_cut.specs.Launches as launching
 use Rattle.strc_stage_cut.specs.declared.stage_ring.Launch.{Launch}
 use Rattle.strc_stage_cut.specs.declared.stage_ring.Launch.TheVariants as launched
 use Rattle.strc_stage.specs.Answers.{AnswersPlan}
@@ -90,7 +90,7 @@ first_over start finished =
 
 -- Where there are no rounds nothing is left to happen.
 ended_ring : (plan : PlanParts) (fired : List units.Unit.Unit) (bounds : List ℕ)
-    (circuit : CircuitView) (started : MachineView) (rounds : ℕ) (first : launching.Ring.Ring)
+    (circuit : CircuitView) (started : MachineView) (rounds : ℕ) (first : launching.Ring)
     (ring : Ring StageParts CollectorParts) → rounds ≡ 0
     → IsRingOf plan fired bounds circuit started rounds first → IsFirstOf first ring
     → is_over (core_seen ring) ≡ true

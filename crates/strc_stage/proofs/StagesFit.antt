@@ -5,7 +5,7 @@ use Rattle.std.proofs.lemmas.Option.{slice_get-map}
 use Rattle.std.specs.Option.{option_map}
 use Rattle.strc_stage_core.specs.Actors.{Stage}
 use Rattle.strc_stage_core.specs.Events.{before}
-use Rattle.strc_stage_core.specs.declared.stop.Stop.{Stop}
+use Rattle.strc_sched_outcome.specs.declared.stop.Stop.{Stop}
 use Rattle.strc_stage_cut.specs.Bounds.{bound_in, last_of}
 use Rattle.strc_stage_cut.specs.Launches.{bounds_of, start_of}
 use Rattle.strc_stage_steps.proofs.StagesFit.{plan_parcels_fit_stages}

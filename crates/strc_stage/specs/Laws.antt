@@ -8,7 +8,7 @@ use Rattle.strc_stage_core.specs.Parcels.{ParcelView}
 use Rattle.strc_stage_plan.specs.Plans.{PlanParts, graph_of}
 use Rattle.strc_stage_steps.specs.Blocks.{fits}
 use Rattle.strc_stage_steps.specs.Plans.{Suffices}
-use Rattle.strc_stage_steps.specs.Seeing.{Ring}
+use Rattle.strc_stage_core.specs.Seeing.{Ring}
 use Rattle.strc_stage_steps.specs.declared.collector.CollectorParts.{CollectorParts}
 use Rattle.strc_stage_steps.specs.declared.stage.StageParts.{StageParts}
 use Rattle.strc_stage.specs.Piped.{HasGoneOn}

@@ -7,15 +7,15 @@ use Rattle.strc_stage_core.specs.States.{first_core}
 use Rattle.strc_stage_plan.specs.Plans.{PlanParts}
 use Rattle.strc_stage_steps.specs.Steps.{stage_work}
 use Rattle.strc_stage_steps.specs.Pipes.{PipeView, IsStateOf}
-use Rattle.strc_stage_steps.specs.Seeing.{Ring, core_of, ring_of}
+use Rattle.strc_stage_core.specs.Seeing.{Ring, core_of, ring_of}
 use Rattle.strc_stage_steps.specs.Collectors.{sees}
 use Rattle.strc_stage_steps.specs.Stages.{see}
 use Rattle.strc_stage_steps.specs.declared.collector.CollectorParts.{CollectorParts}
-use Rattle.strc_stage_steps.specs.declared.parts.Parts.{Parts}
+use Rattle.strc_stage_core.specs.declared.ring.Parts.{Parts}
 use Rattle.strc_stage_steps.specs.declared.stage.StageParts.{StageParts}
 use Rattle.strc_stage_cut.specs.Launches.{HasBegun, IsLaunch, start_of}
 use Rattle.strc_stage_cut.specs.Startups as startup
-use Rattle.strc_stage_cut.specs.declared.stage_ring as launching
+use Rattle.strc_stage_cut.specs.Launches as launching
 use Rattle.strc_stage_cut.specs.declared.stage_ring.Launch.{Launch}
 use Rattle.strc_stage_cut.specs.declared.stage_ring.Launch.TheVariants as launched
 use Rattle.strc_stage.specs.declared.pipe.State.{State}
@@ -29,7 +29,7 @@ core_seen ring = core_of see sees ring
 pub record HasGoneOn (plan : PlanParts) (input : List ℤ) (rounds : ℕ)
     (ring : Ring StageParts CollectorParts) : Type 0 where
   pub workers : ℕ
-  pub first : launching.Ring.Ring
+  pub first : launching.Ring
   pub begun : HasBegun plan input rounds workers first
   pub state : IsStateOf (start_of first) (core_seen ring)
 
@@ -66,7 +66,7 @@ Happens event (state.Going old) (state.Going new) =
 Happens event old new = ⊥
 
 -- A ring before any event is what a launch gave.
-abbrev pub IsFirstOf : launching.Ring.Ring → Ring StageParts CollectorParts → Type 0
+abbrev pub IsFirstOf : launching.Ring → Ring StageParts CollectorParts → Type 0
 IsFirstOf first ring = core_seen ring ≡ first_core (start_of first)
 
 -- A state before any event.

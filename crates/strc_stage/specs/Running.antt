@@ -2,7 +2,7 @@
 use Rattle.std.specs.Prelude.{◌≡◌, true, ℤ, List, Option}
 use Rattle.strc_elab_dataflow.specs.Answer.{Outcome.StartupFault}
 use Rattle.strc_sched_laws.specs.Machine.{CircuitView, MachineView}
-use Rattle.strc_stage_core.specs.declared.stop.Stop.{Stop}
+use Rattle.strc_sched_outcome.specs.declared.stop.Stop.{Stop}
 use Rattle.strc_stage_plan.specs.Plans.{PlanParts, graph_of, transformed_of}
 use Rattle.strc_sched_outcome.specs.declared.outcome.Outcome.{Outcome}
 use Rattle.strc_sched_outcome.specs.declared.run_refusal.RunRefusal.{RunRefusal}

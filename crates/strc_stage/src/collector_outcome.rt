@@ -22,7 +22,7 @@ use strc_lex_names::memory::NoMemory;
 use strc_sched_orders::limit::NUMBERED_NODES;
 use strc_sched_outcome::outcome::{Outcome, Round, Tape};
 use strc_sched_outcome::run_refusal::RunRefusal;
-use strc_stage_core::Stop;
+use strc_sched_outcome::stop::Stop;
 use strc_stage_plan::plan::Plan;
 use strc_stage_steps::CollectorParts;
 use strc_work_meaning::fault::LocatedCause;

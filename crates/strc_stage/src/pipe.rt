@@ -9,7 +9,7 @@ ghost use Rattle.strc_stage_steps.specs.Plans.{need_of};
 ghost use Rattle.strc_stage_steps.specs.Collectors.{sees};
 ghost use Rattle.strc_stage_steps.specs.Stages.{see};
 ghost use Rattle.strc_stage_steps.specs.Pipes.{IsSomeState};
-ghost use Rattle.strc_stage_steps.specs.Seeing.{core_of_parts};
+ghost use Rattle.strc_stage_core.specs.Seeing.{core_of_parts};
 ghost use Rattle.strc_stage_cut.specs.Launches.{IsLaunch, start_of};
 ghost use Rattle.strc_stage.specs.Answers.{AnswersPlan};
 ghost use Rattle.strc_stage.specs.Running.{EndsSo, IsBegun};
@@ -22,9 +22,9 @@ use std::alloc::Global;
 use strc_lex_names::memory::NoMemory;
 use strc_sched_outcome::outcome::Outcome;
 use strc_sched_outcome::run_refusal::RunRefusal;
-use strc_stage_cut::{Launch, Ring, Stages, launch};
+use strc_stage_cut::{Launch, Stages, launch};
 use strc_stage_plan::plan::Plan;
-use strc_stage_steps::{Collector, Event, Parts, Stage};
+use strc_stage_steps::{Collector, Event, Parts, Stage, Start};
 use strc_work_meaning::fault::LocatedCause;
 
 /// The stages of a plan after start-up, in whatever state events have led to.
@@ -195,16 +195,14 @@ fn state_of(alloc: Global, launched: Launch) -> Result<State, NoMemory>
 }
 
 /// A ring of stages before any event.
-fn ring_of(alloc: Global, ring: Ring) -> Result<strc_stage_steps::Pipe<Stage, Collector>, NoMemory>
-    requires start { IsStart (start_of ring) }
-    ensures { IfOk result (IsFirstOf ring) }
+fn ring_of(
+    alloc: Global,
+    start: Start<Stage, Collector>,
+) -> Result<strc_stage_steps::Pipe<Stage, Collector>, NoMemory>
+    requires start { IsStart (start_of start) }
+    ensures { IfOk result (IsFirstOf start) }
 {
-    let Ring {
-        stages,
-        free,
-        collector,
-    } = ring;
-    strc_stage_steps::Pipe::new(alloc, stages, free, collector)
+    strc_stage_steps::Pipe::new(alloc, start)
 }
 
 /// The outcome that a collector has come to.

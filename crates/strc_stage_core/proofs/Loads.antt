@@ -7,7 +7,7 @@ use Rattle.std.proofs.Math.Seq.{map-set_same, take-suc-set}
 use Rattle.std.specs.Global.{Vec}
 use Rattle.std.specs.Vec.{vec_items, vec_capacity}
 use Rattle.strc_work_meaning.specs.declared.word.Word.{Word}
-use Rattle.strc_stage_core.specs.declared.stop.Stop.{Stop}
+use Rattle.strc_sched_outcome.specs.declared.stop.Stop.{Stop}
 use Rattle.strc_stage_core.specs.Parcels.{ParcelView, parcel, load_of, with_block, with_words}
 use Rattle.strc_stage_core.specs.Parcels.{block_at}
 use Rattle.strc_stage_core.specs.Parcels.{filled}

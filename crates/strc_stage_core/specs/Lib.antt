@@ -9,3 +9,4 @@ pub mod Laws
 pub mod Driving
 pub mod Rows
 pub mod Parcels
+pub mod Seeing

@@ -5,7 +5,7 @@ use Rattle.std.specs.Global.{Vec}
 use Rattle.std.specs.Vec.{vec_items, vec_capacity}
 use Rattle.strc_stage_core.specs.Actors.{Plain}
 use Rattle.strc_work_meaning.specs.declared.word.Word.{Word}
-use Rattle.strc_stage_core.specs.declared.stop.Stop.{Stop}
+use Rattle.strc_sched_outcome.specs.declared.stop.Stop.{Stop}
 
 -- What a parcel carries: a block of items for each channel that crosses stages, how many items
 -- each block has room for, and the words of each tape.

@@ -1,10 +1,11 @@
 // Takes: what a stage does with what a parcel carries.
 // Gives: a ring of stages and a collector as a machine over the events take and give, laws about
-// its states that hold whatever stages compute, and the parcels and actors of such rings in code:
-// `Parcel`, `Stop`, and the trait `Actor`. A caller relies on `events_keep_states`, and on each
-// method of a parcel leaving exactly the value that its clause names. Each law is the contract of a
-// public function with an empty body; `specs/Laws.antt` states them.
-// Stands on strc_work_meaning, whose causes and words parcels carry.
+// its states that hold whatever stages compute, and such rings in code: `Parcel`, the trait
+// `Actor`, what a ring begins with (`Start`), and its `Parts`. A caller relies on
+// `events_keep_states`, and on each method of a parcel leaving exactly the value that its clause
+// names. Each law is the contract of a public function with an empty body, stated in `specs/Laws`.
+// Stands on strc_work_meaning, whose words parcels carry, and on strc_sched_outcome, whose stops
+// they carry.
 #![tactic(auto)]
 
 mod actor;
@@ -13,7 +14,7 @@ mod lists;
 mod parcel;
 mod parcel_memory;
 pub mod parts;
-mod stop;
+mod ring;
 
 ghost use Rattle.strc_stage_core.specs.Laws.{FirstCoreIsState, EventsKeepStates, EventsAreAllowed};
 ghost use Rattle.strc_stage_core.specs.Laws.{EventsAreCounted, EventsEnd, ParcelsAreKept};
@@ -133,4 +134,4 @@ pub fn emptied_parcels()
 
 pub use actor::Actor;
 pub use parcel::Parcel;
-pub use stop::Stop;
+pub use ring::{Parts, Start};

@@ -3,14 +3,14 @@
 ghost use Rattle.std.specs.Prelude.{◌≡◌, ◌+◌, ◌<◌, ◌≤◌, ◌++◌, ◌⊎◌, [], false, length, IfOk};
 ghost use Rattle.std.specs.Prelude.{Some, None, is_some, slice_index_or, slice_set};
 ghost use Rattle.strc_stage_core.specs.Actors.{or_else};
-ghost use Rattle.strc_stage_core.specs.declared.stop.Stop.TheVariants.{NoMemory};
+ghost use Rattle.strc_sched_outcome.specs.declared.stop.Stop.TheVariants.{NoMemory};
 
 use crate::lists::{append_most, append_within, clear_all};
 use crate::parcel_memory::{blocks_with, words_of};
-use crate::stop::Stop;
 use std::alloc::{AllocError, Global};
 use std::marker::Model;
 use std::mem;
+use strc_sched_outcome::stop::Stop;
 use strc_work_meaning::word::Word;
 
 /// A block of items for each channel that crosses stages, the words of each tape, why it is

@@ -14,7 +14,7 @@ use Rattle.strc_sched_laws.specs.Machine.{CircuitView, MachineView, words_at}
 use Rattle.strc_sched_laws.proofs.Supplies.{element}
 use Rattle.strc_stage_core.specs.Actors as actors
 use Rattle.strc_stage_core.specs.States.{AreFresh, IsFresh}
-use Rattle.strc_stage_core.specs.declared.stop.Stop.{Stop}
+use Rattle.strc_sched_outcome.specs.declared.stop.Stop.{Stop}
 use Rattle.strc_stage_core.specs.Parcels.{ParcelView, parcel, empty_load}
 use Rattle.strc_stage_steps.specs.Beginnings.{IsBeginning, IsFree, IsStageOf, crosses}
 use Rattle.strc_stage_steps.specs.Beginnings.{is_under_way, rooms_of}

@@ -14,7 +14,7 @@ use Rattle.strc_stage_cut.specs.Launches.{HasBegun, IsRingOf, bounds_of}
 use Rattle.strc_stage_cut.specs.Stages.{AreStages}
 use Rattle.strc_stage_cut.specs.Startups.{HasEnded}
 use Rattle.strc_stage_cut.specs.declared.plan_cut.Cut.{Cut}
-use Rattle.strc_stage_cut.specs.declared.stage_ring.Ring.{Ring}
+use Rattle.strc_stage_cut.specs.Launches.{Ring}
 use Rattle.strc_stage_cut.proofs.Carried.{carried_few}
 use Rattle.strc_stage_cut.proofs.Cuts.{two_bounds, bounds_cut, stages_are}
 use Rattle.strc_stage_cut.proofs.RoundCounts.{counts_few}

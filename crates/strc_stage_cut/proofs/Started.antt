@@ -16,8 +16,8 @@ use Rattle.strc_sched_laws.specs.Planned.{AreKnown}
 use Rattle.strc_sched_machine.specs.Actors.{AreClosed, IsClosedNode, AreStartable, CanStartNode}
 use Rattle.strc_sched_machine.specs.Actors.{CanStartCopy}
 use Rattle.strc_sched_machine.specs.Running.{HasGone, machine_view}
-use Rattle.strc_sched_machine.specs.declared.machine.Stop.{Stop}
-use Rattle.strc_sched_machine.specs.declared.machine.Stop.TheVariants as stops
+use Rattle.strc_sched_outcome.specs.declared.stop.Stop.{Stop}
+use Rattle.strc_sched_outcome.specs.declared.stop.Stop.TheVariants as stops
 use Rattle.strc_sched_machine.proofs.Startable.{all_start}
 use Rattle.strc_fiss.specs.Numbers.{is_dealt}
 use Rattle.strc_fiss.specs.Splitting.{code_at, copied, new_code, part_of}

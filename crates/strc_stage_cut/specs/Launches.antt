@@ -1,11 +1,13 @@
 -- What start-up of a plan comes to.
-use Rattle.std.specs.Prelude.{◌≡◌, ℕ, suc, ℤ, List, map}
+use Rattle.std.specs.Prelude.{◌≡◌, ℕ, suc, ℤ, List}
 use Rattle.strc_sched_laws.specs.Machine.{CircuitView, MachineView}
-use Rattle.strc_stage_core.specs.States.{Start}
+use Rattle.strc_stage_core.specs.Seeing as seeing
+use Rattle.strc_stage_core.specs.States.{Start as CoreStart}
+use Rattle.strc_stage_core.specs.declared.ring.Start.{Start}
 use Rattle.strc_stage_plan.specs.Bounds.{stage_bounds, stage_count}
 use Rattle.strc_sched_orders.specs.declared.unit as units
 use Rattle.strc_fuse.specs.Units.{round_units}
-use Rattle.strc_stage_core.specs.declared.stop as parcels
+use Rattle.strc_sched_outcome.specs.declared.stop.Stop.{Stop}
 use Rattle.strc_stage_core.specs.Parcels.{Load}
 use Rattle.strc_stage_plan.specs.Plans.{PlanParts, transformed_of}
 use Rattle.strc_stage_steps.specs.Beginnings.{IsBeginning}
@@ -19,16 +21,15 @@ use Rattle.strc_stage_cut.specs.Made.{AreMade}
 use Rattle.strc_stage_cut.specs.Startups.{HasEnded, HasFaulted}
 use Rattle.strc_stage_cut.specs.declared.stage_ring.Launch.{Launch}
 use Rattle.strc_stage_cut.specs.declared.stage_ring.Launch.TheVariants as launched
-use Rattle.strc_stage_cut.specs.declared.stage_ring.Ring.{Ring}
+use Rattle.strc_stage_steps.specs.declared.collector.CollectorParts.{CollectorParts}
+use Rattle.strc_stage_steps.specs.declared.stage.StageParts.{StageParts}
 
--- A ring as the definitions see it. All have finished at first where the collector has.
-abbrev pub start_of : Ring → Start StageState Load parcels.Stop.Stop Gathered
-start_of ring = record {
-  stages = map see ring.stages.items;
-  free = ring.free.items;
-  collector = sees ring.collector;
-  done = (sees ring.collector).finished;
-}
+-- What the ring of a plan's stages begins with, and how the definitions see it.
+abbrev pub Ring : Type 0
+Ring = Start StageParts CollectorParts
+
+abbrev pub start_of : Ring → CoreStart StageState Load Stop Gathered
+start_of ring = seeing.start_of see sees ring
 
 -- The bounds of the stages that so many workers share.
 abbrev pub bounds_of : PlanParts → (workers : ℕ) → List ℕ

@@ -9,8 +9,8 @@ use Rattle.strc_sched_rings.specs.declared.circuit.Circuit.{Circuit}
 use Rattle.strc_stage_steps.specs.Dealt.{HaveRoom, IsDealt}
 use Rattle.strc_sched_machine.specs.Running.{IsMachine, machine_view}
 use Rattle.strc_sched_machine.specs.declared.machine.Machine.{Machine}
-use Rattle.strc_sched_machine.specs.declared.machine.Stop.{Stop}
-use Rattle.strc_sched_machine.specs.declared.machine.Stop.TheVariants as stops
+use Rattle.strc_sched_outcome.specs.declared.stop.Stop.{Stop}
+use Rattle.strc_sched_outcome.specs.declared.stop.Stop.TheVariants as stops
 use Rattle.strc_stage_plan.specs.Plans.{PlanParts, graph_of, transformed_of}
 use Rattle.strc_stage_steps.specs.Plans.{HasStarted, IsReadyFor}
 use Rattle.strc_stage_cut.specs.declared.startup.Startup.{Startup}

@@ -24,6 +24,6 @@ mod tapes;
 mod units;
 
 pub use plan_cut::even_bounds;
-pub use stage_ring::{Launch, Ring, ring_by};
+pub use stage_ring::{Launch, ring_by};
 pub use stages::{Stages, cut, launch};
 pub use startup::{Startup, start_up, start_up_in};

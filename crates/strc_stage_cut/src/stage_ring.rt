@@ -19,23 +19,15 @@ use strc_sched_machine::laws::whole_machines_hold;
 use strc_sched_machine::machine::Machine;
 use strc_sched_orders::unit::Unit;
 use strc_sched_rings::circuit::Circuit;
-use strc_stage_core::Parcel;
+use strc_stage_core::Start;
 use strc_stage_plan::plan::Plan;
 use strc_stage_steps::{Collector, Stage};
 use strc_work_meaning::fault::LocatedCause;
 
-/// The stages of a plan, the free parcels and the collector.
-#[derive(Drop)]
-pub struct Ring {
-    pub stages: Vec<Stage>,
-    pub free: Vec<Parcel>,
-    pub collector: Collector,
-}
-
-/// What start-up of a plan comes to: the ring of stages that it leaves, or a fault.
+/// What start-up of a plan comes to: what the ring of its stages begins with, or a fault.
 #[derive(Drop)]
 pub enum Launch {
-    Going(Ring),
+    Going(Start<Stage, Collector>),
     Faulted {
         node: u32,
         firing: u64,
@@ -56,7 +48,7 @@ pub fn ring_by(
     circuit: &Circuit,
     machine: Machine,
     steps: u32,
-) -> Result<Ring, NoMemory>
+) -> Result<Start<Stage, Collector>, NoMemory>
     requires cut { IsCutAt plan.now bounds.items }
     requires shared { CanBeShared plan.now fired.now bounds.items }
     requires circuit { IsCircuit (graph_view plan.now.split.graph) (circuit_view circuit.now) }
@@ -81,7 +73,7 @@ pub(crate) fn ring_of(
     circuit: &Circuit,
     machine: Machine,
     steps: u32,
-) -> Result<Ring, NoMemory>
+) -> Result<Start<Stage, Collector>, NoMemory>
     requires cut { IsCutting plan.now fired.now cut.now }
     requires circuit { IsCircuit (graph_view plan.now.split.graph) (circuit_view circuit.now) }
     requires ready { IsReady circuit.now }
@@ -96,7 +88,7 @@ pub(crate) fn ring_of(
     let stages = stages_of(alloc, plan, fired, cut, circuit, &mut left, steps)?;
     let free = free_parcels(alloc, &stages)?;
     let words = tape_words(alloc, plan.transformed_graph().nodes(), left.into_words())?;
-    Ok(Ring {
+    Ok(Start {
         stages,
         free,
         collector: Collector::new(words, steps),

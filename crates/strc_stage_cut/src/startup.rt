@@ -10,7 +10,8 @@ ghost use Rattle.strc_stage_cut.specs.Startups.{IsDealtOf, IsFaultOf, IsStartup,
 use std::alloc::Global;
 use strc_lex_names::memory::NoMemory;
 use strc_sched_machine::batches::order_of;
-use strc_sched_machine::machine::{Machine, Stop};
+use strc_sched_machine::machine::Machine;
+use strc_sched_outcome::stop::Stop;
 use strc_sched_rings::circuit::Circuit;
 use strc_stage_plan::plan::Plan;
 use strc_stage_steps::dealt_state::deal_out;

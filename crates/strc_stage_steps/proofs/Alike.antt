@@ -18,8 +18,8 @@ use Rattle.strc_stage_core.specs.States.{Start, Core, IsState}
 use Rattle.strc_stage_core.proofs.Endings.{all_ended}
 use Rattle.strc_stage_core.proofs.Gathering.{gathers_all}
 use Rattle.strc_stage_core.proofs.Stages.{gathers_taken}
-use Rattle.strc_stage_core.specs.declared.stop.Stop.{Stop}
-use Rattle.strc_stage_core.specs.declared.stop.Stop.TheVariants as stop
+use Rattle.strc_sched_outcome.specs.declared.stop.Stop.{Stop}
+use Rattle.strc_sched_outcome.specs.declared.stop.Stop.TheVariants as stop
 use Rattle.strc_stage_core.specs.Parcels.{Load, ParcelView}
 use Rattle.strc_sched_laws.specs.Machine.{MachineView, words_at}
 use Rattle.strc_sched_laws.specs.Simulation.{Simulates}

@@ -17,8 +17,8 @@ use Rattle.strc_stage_core.specs.States.{Start, Core, IsState, Runs, AreFresh}
 use Rattle.strc_stage_core.proofs.Joining.{joined_state}
 use Rattle.strc_stage_core.proofs.Runs.{runs_length}
 use Rattle.strc_stage_core.proofs.Stages.{runs_taken}
-use Rattle.strc_stage_core.specs.declared.stop.Stop.{Stop}
-use Rattle.strc_stage_core.specs.declared.stop.Stop.TheVariants as stop
+use Rattle.strc_sched_outcome.specs.declared.stop.Stop.{Stop}
+use Rattle.strc_sched_outcome.specs.declared.stop.Stop.TheVariants as stop
 use Rattle.strc_stage_core.specs.Parcels.{Load, ParcelView}
 use Rattle.strc_stage_steps.specs.Beginnings.{IsBeginning}
 use Rattle.strc_stage_steps.specs.Carrying as carrying

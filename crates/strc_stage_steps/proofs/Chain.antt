@@ -19,7 +19,7 @@ use Rattle.strc_stage_core.specs.States.{Start, Core, IsState, AreFresh}
 use Rattle.strc_stage_core.proofs.Joining.{state_parts}
 use Rattle.strc_stage_core.proofs.Stages.{runs_taken}
 use Rattle.strc_stage_core.proofs.Taking.{each_within_rounds}
-use Rattle.strc_stage_core.specs.declared.stop.Stop.{Stop}
+use Rattle.strc_sched_outcome.specs.declared.stop.Stop.{Stop}
 use Rattle.strc_stage_core.specs.Parcels.{Load, ParcelView}
 use Rattle.strc_sched_laws.specs.Fits.{Queues}
 use Rattle.strc_sched_laws.specs.Machine.{MachineView}

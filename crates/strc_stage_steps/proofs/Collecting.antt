@@ -3,7 +3,7 @@ use Rattle.std.proofs.Common.{◌≡◌, refl, sym, ap, suc, Bool, true, false, 
 use Rattle.std.proofs.Common.{Some, None}
 use Rattle.std.proofs.Common.{is_some, inl, inr}
 use Rattle.strc_stage_core.specs.Actors.{Collector, MayStop, collected, returned, or_else}
-use Rattle.strc_stage_core.specs.declared.stop.Stop.{Stop}
+use Rattle.strc_sched_outcome.specs.declared.stop.Stop.{Stop}
 use Rattle.strc_stage_core.specs.Parcels.{Load, ParcelView, parcel, emptied}
 use Rattle.strc_stage_steps.specs.Steps.{Gathered, stage_work, with_round}
 

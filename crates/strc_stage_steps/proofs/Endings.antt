@@ -8,8 +8,8 @@ use Rattle.strc_elab_dataflow.specs.Answer.{Outcome.StartupFault}
 use Rattle.strc_elab_dataflow.specs.Machine as generic
 use Rattle.strc_elab_graph.specs.Graphs.{NodeCode}
 use Rattle.strc_elab_graph.specs.Tapes.{tape_nodes}
-use Rattle.strc_stage_core.specs.declared.stop.Stop.{Stop}
-use Rattle.strc_stage_core.specs.declared.stop.Stop.TheVariants as stop
+use Rattle.strc_sched_outcome.specs.declared.stop.Stop.{Stop}
+use Rattle.strc_sched_outcome.specs.declared.stop.Stop.TheVariants as stop
 use Rattle.strc_sched_laws.specs.Machine.{Ending, Ended, FaultedAtFirst, FaultedIn, words_at}
 use Rattle.strc_sched_laws.specs.RingAnswer.{Tells}
 use Rattle.strc_stage_steps.specs.Laws.{TellsOutcome, TellsEnding, OutcomesTellEndings}

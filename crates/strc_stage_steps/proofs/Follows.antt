@@ -12,8 +12,8 @@ use Rattle.strc_elab_dataflow.specs.Queues.{FifoProgress.FifoStopped}
 use Rattle.strc_stage_core.specs.Actors as actors
 use Rattle.strc_stage_core.specs.Actors.{is_passing, stop_of, next, made, MayStop, Step, or_else}
 use Rattle.strc_stage_core.specs.States.{Runs}
-use Rattle.strc_stage_core.specs.declared.stop.Stop.{Stop}
-use Rattle.strc_stage_core.specs.declared.stop.Stop.TheVariants as stop
+use Rattle.strc_sched_outcome.specs.declared.stop.Stop.{Stop}
+use Rattle.strc_sched_outcome.specs.declared.stop.Stop.TheVariants as stop
 use Rattle.strc_stage_core.specs.Parcels.{Load, ParcelView}
 use Rattle.strc_sched_laws.specs.Fits.{Queues}
 use Rattle.strc_sched_laws.specs.Machine as machines

@@ -8,8 +8,8 @@ use Rattle.std.proofs.lemmas.List.{get_or-replicate, get_or_past, length-replica
 use mathlib.Core.Logic.{inl, inr, ◌⊎◌}
 use Rattle.strc_stage_core.specs.Actors.{Collector, Collects, returned, collected}
 use Rattle.strc_stage_core.specs.States.{Runs}
-use Rattle.strc_stage_core.specs.declared.stop.Stop.{Stop}
-use Rattle.strc_stage_core.specs.declared.stop.Stop.TheVariants as stop
+use Rattle.strc_sched_outcome.specs.declared.stop.Stop.{Stop}
+use Rattle.strc_sched_outcome.specs.declared.stop.Stop.TheVariants as stop
 use Rattle.strc_stage_core.specs.Parcels as parcels
 use Rattle.strc_stage_core.specs.Parcels.{Load, ParcelView, empty_load}
 use Rattle.strc_sched_laws.specs.Machine.{MachineView}

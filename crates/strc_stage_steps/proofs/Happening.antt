@@ -10,10 +10,10 @@ use Rattle.strc_stage_core.proofs.Acts.{acts_grow, acts_within, most_acts-state}
 use Rattle.strc_stage_core.proofs.Counts.{lengths}
 use Rattle.strc_stage_core.proofs.Events.{state_after}
 use Rattle.strc_stage_core.proofs.Progress.{progress}
-use Rattle.strc_stage_core.specs.declared.stop.Stop.{Stop}
+use Rattle.strc_sched_outcome.specs.declared.stop.Stop.{Stop}
 use Rattle.strc_stage_core.specs.Parcels.{Load}
-use Rattle.strc_stage_steps.specs.declared.parts.Parts.{Parts}
-use Rattle.strc_stage_steps.specs.Seeing.{core_of_parts, HasRoom}
+use Rattle.strc_stage_core.specs.declared.ring.Parts.{Parts}
+use Rattle.strc_stage_core.specs.Seeing.{core_of_parts, HasRoom}
 
 module _ {State Load Stop Total : Type 0} (work : Work State Load Stop Total) where
   -- A state of some start.

@@ -13,7 +13,7 @@ use Rattle.strc_elab_dataflow.specs.Workers.{AreParcels}
 use Rattle.strc_elab_dataflow.proofs.Sent.{StepComes, step_works}
 use Rattle.strc_stage_core.specs.Actors.{Step, made, next, or_else, stop_of}
 use Rattle.strc_stage_core.specs.States.{Runs}
-use Rattle.strc_stage_core.specs.declared.stop.Stop.{Stop}
+use Rattle.strc_sched_outcome.specs.declared.stop.Stop.{Stop}
 use Rattle.strc_stage_core.specs.Parcels.{ParcelView}
 use Rattle.strc_sched_laws.specs.Fits.{Queues}
 use Rattle.strc_sched_laws.specs.Machine as machines

@@ -12,10 +12,10 @@ use Rattle.strc_stage_core.specs.Events.{is_over}
 use Rattle.strc_stage_core.specs.Events.{may, Does, Takes}
 use Rattle.strc_stage_core.specs.Moves.{queues, Pulls}
 use Rattle.strc_stage_core.proofs.Reading.{finished_collector, takes_by, take_loaded}
-use Rattle.strc_stage_core.specs.declared.stop.Stop.{Stop}
+use Rattle.strc_sched_outcome.specs.declared.stop.Stop.{Stop}
 use Rattle.strc_stage_core.specs.Parcels.{ParcelView, Load}
-use Rattle.strc_stage_steps.specs.declared.parts.Parts.{Parts}
-use Rattle.strc_stage_steps.specs.Seeing.{core_of_parts}
+use Rattle.strc_stage_core.specs.declared.ring.Parts.{Parts}
+use Rattle.strc_stage_core.specs.Seeing.{core_of_parts}
 
 module _ {State Load Stop Total : Type 0} (core : Core State Load Stop Total) where
   pub allows_take : (event : Event) (actor stages : ℕ) (done : Bool) → event ≡ Take actor

@@ -16,7 +16,7 @@ use Rattle.strc_stage_core.specs.States.{Start, Core, IsState, Runs}
 use Rattle.strc_stage_core.proofs.Runs.{runs_length}
 use Rattle.strc_stage_core.proofs.Steps.{stepped, gathers}
 use Rattle.strc_stage_core.proofs.Stopping.{runs_stay_stopped}
-use Rattle.strc_stage_core.specs.declared.stop.Stop.{Stop}
+use Rattle.strc_sched_outcome.specs.declared.stop.Stop.{Stop}
 use Rattle.strc_stage_core.specs.Parcels.{Load, ParcelView}
 use Rattle.strc_sched_laws.specs.Machine.{MachineView}
 use Rattle.strc_sched_laws.specs.Simulation.{Simulates}

@@ -36,7 +36,7 @@ use Rattle.strc_stage_core.specs.Events.{is_over}
 use Rattle.strc_stage_core.specs.Parts.{AreJoined, core_of}
 use Rattle.strc_stage_core.specs.States.{Start, Core, IsState}
 use Rattle.strc_stage_core.proofs.Joining.{joined_state}
-use Rattle.strc_stage_core.specs.declared.stop as parcels
+use Rattle.strc_sched_outcome.specs.declared.stop as parcels
 use Rattle.strc_stage_core.specs.Parcels.{ParcelView}
 use Rattle.strc_stage_core.specs.Parcels.{Load}
 use Rattle.strc_elab_dataflow.specs.Chains.{IsResumption}

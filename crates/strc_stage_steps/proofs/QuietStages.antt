@@ -3,12 +3,11 @@ use Rattle.std.proofs.Common.{◌≡◌, ◌≢◌, ◌∙◌, refl, sym, ap, su
 use Rattle.std.proofs.Common.{cond, ◌||◌, Option, Some, None, is_some, Err, inl, inr}
 use Rattle.strc_sched_laws.specs.Machine.{MachineView}
 use Rattle.strc_sched_machine.specs.Memory.{AreQuiet}
-use Rattle.strc_sched_machine.specs.declared.machine.Stop.TheVariants as fired
 use Rattle.strc_sched_machine.proofs.Wanting.{quiet_order}
 use Rattle.strc_stage_core.specs.Actors.{MayStop, or_else, is_passing, stop_of, next, made, Step}
 use Rattle.strc_stage_core.specs.Parcels.{Load, ParcelView}
-use Rattle.strc_stage_core.specs.declared.stop.Stop.{Stop}
-use Rattle.strc_stage_core.specs.declared.stop.Stop.TheVariants as stops
+use Rattle.strc_sched_outcome.specs.declared.stop.Stop.{Stop}
+use Rattle.strc_sched_outcome.specs.declared.stop.Stop.TheVariants as stops
 use Rattle.strc_stage_steps.specs.Steps.{StageState, stage_work, machine_entered, state_of_step}
 use Rattle.strc_stage_steps.specs.Memory.{IsQuiet, QuietStagesWantNoMemory, StageComesToWord}
 
@@ -34,7 +33,7 @@ never_comes : (state : StageState) (load : Load) → HasQuietNodes state
     → StageComesToWord state load → ⊥
 never_comes state load quiet (machine, is, comes) =
     quiet_order state.circuit state.order (machine_entered state.entering load machine)
-    (Err fired.NoMemory) quiet comes refl
+    (Err stops.NoMemory) quiet comes refl
 
 -- The stop is the parcel's or the stage's, if one has a stop.
 no_memory : (own before due stop : Option Stop)

@@ -10,8 +10,8 @@ use Rattle.strc_elab_dataflow.specs.Restart.{numbered_on}
 use Rattle.strc_elab_dataflow.specs.Stages.{Parcel.Moves, Parcel.Halts}
 use Rattle.strc_elab_dataflow.specs.Workers.{AreParcels, HasHalted, IsHalted}
 use Rattle.strc_stage_core.specs.Endings.{AreRunning}
-use Rattle.strc_stage_core.specs.declared.stop.Stop.{Stop}
-use Rattle.strc_stage_core.specs.declared.stop.Stop.TheVariants as stop
+use Rattle.strc_sched_outcome.specs.declared.stop.Stop.{Stop}
+use Rattle.strc_sched_outcome.specs.declared.stop.Stop.TheVariants as stop
 use Rattle.strc_stage_core.specs.Parcels.{Load, ParcelView}
 use Rattle.strc_stage_steps.specs.Carrying as carrying
 use Rattle.strc_stage_steps.specs.Carrying.{HasStopped}

@@ -15,7 +15,7 @@ use Rattle.strc_stage_core.specs.Events.{HasRounds, is_finished}
 use Rattle.strc_stage_core.specs.Parts as ring
 use Rattle.strc_stage_core.specs.Parts.{core_of}
 use Rattle.strc_stage_core.specs.States.{Core, IsState, Runs, Start}
-use Rattle.strc_stage_core.specs.declared.stop.Stop.{Stop}
+use Rattle.strc_sched_outcome.specs.declared.stop.Stop.{Stop}
 use Rattle.strc_stage_core.specs.Parcels.{Load, ParcelView, block_at}
 use Rattle.strc_stage_steps.specs.Beginnings.{IsBeginning, blocks_before, blocks_of, crosses}
 use Rattle.strc_stage_steps.specs.Beginnings.{is_under_way, rooms_of, stage_at}

@@ -6,8 +6,8 @@ use Rattle.std.proofs.lemmas.Bool.{eqb-true, eqb-false}
 use Rattle.strc_stage_core.specs.Actors.{Stage, MayStop, Step, is_passing, is_marked, stop_of, next}
 use Rattle.strc_stage_core.specs.Actors.{made}
 use Rattle.strc_stage_core.specs.Actors.{or_else}
-use Rattle.strc_stage_core.specs.declared.stop.Stop.{Stop}
-use Rattle.strc_stage_core.specs.declared.stop.Stop.TheVariants.{NoMemory}
+use Rattle.strc_sched_outcome.specs.declared.stop.Stop.{Stop}
+use Rattle.strc_sched_outcome.specs.declared.stop.Stop.TheVariants.{NoMemory}
 use Rattle.strc_stage_core.specs.Parcels.{Load, ParcelView, parcel, emptied}
 use Rattle.strc_stage_steps.specs.Steps.{StageState, stage_work, with_machine, due_stop_of}
 use Rattle.strc_stage_steps.specs.Steps.{state_of_step, load_of_step}

@@ -10,8 +10,8 @@ use Rattle.strc_elab_dataflow.specs.Machine as generic
 use Rattle.strc_elab_graph.specs.Graphs.{NodeCode, gives_words}
 use Rattle.strc_elab_graph.specs.Tapes.{tape_nodes, tape_nodes_from}
 use Rattle.strc_stage_core.specs.Endings.{AreRunning, gathered_of}
-use Rattle.strc_stage_core.specs.declared.stop.Stop.{Stop}
-use Rattle.strc_stage_core.specs.declared.stop.Stop.TheVariants as stop
+use Rattle.strc_sched_outcome.specs.declared.stop.Stop.{Stop}
+use Rattle.strc_sched_outcome.specs.declared.stop.Stop.TheVariants as stop
 use Rattle.strc_stage_core.specs.Parcels.{Load, ParcelView}
 use Rattle.strc_elab_dataflow.specs.Restart.{numbered_on}
 use Rattle.strc_elab_dataflow.specs.Stages.{Parcel.Moves, Parcel.Halts, collected}

@@ -2,13 +2,10 @@
 use Rattle.std.proofs.Common.{◌≡◌, ◌∙◌, sym, ap, ℕ, List, Bool, true, false, true≢false, Option}
 use Rattle.std.proofs.Common.{Some, None, is_some, Err}
 use Rattle.strc_sched_machine.specs.Memory.{ComesToWord, WantsWordOfOrder}
-use Rattle.strc_sched_machine.specs.declared.machine.Stop as machines
-use Rattle.strc_sched_machine.specs.declared.machine.Stop.TheVariants as fired
 use Rattle.strc_sched_laws.specs.Machine.{CircuitView, MachineView}
 use Rattle.strc_stage_core.specs.Actors.{or_else}
-use Rattle.strc_stage_core.specs.declared.stop.Stop.{Stop}
-use Rattle.strc_stage_core.specs.declared.stop.Stop.TheVariants as stops
-use Rattle.strc_stage_steps.specs.Stepping.{told}
+use Rattle.strc_sched_outcome.specs.declared.stop.Stop.{Stop}
+use Rattle.strc_sched_outcome.specs.declared.stop.Stop.TheVariants as stops
 
 -- nothing is something
 none_some : (stop : Stop) → ◌≡◌ {A = Option Stop} None (Some stop) → ⊥
@@ -23,12 +20,11 @@ pub stopped_wants : {A : Type 0} (why : Option Stop) → is_some why ≡ true �
 stopped_wants why is none = absurd (true≢false (sym is ∙ ap is_some none))
 
 -- A machine that was stopped out of memory has come to a word.
-pub told_wants : (circuit : CircuitView) (order : List ℕ) (before : MachineView)
-    (why : machines.Stop) (result : Stop) → result ≡ told why
-    → WantsWordOfOrder circuit order before (Err why)
-    → ◌≡◌ {A = Option Stop} (Some result) (Some stops.NoMemory) → ComesToWord circuit order before
-told_wants circuit order before (fired.Fault node firing cause) result is wants e = cc
-told_wants circuit order before fired.NoMemory result is wants e = wants
+pub stop_wants : (circuit : CircuitView) (order : List ℕ) (before : MachineView)
+    (why : Stop) → WantsWordOfOrder circuit order before (Err why)
+    → ◌≡◌ {A = Option Stop} (Some why) (Some stops.NoMemory) → ComesToWord circuit order before
+stop_wants circuit order before (stops.Fault node firing cause) wants e = cc
+stop_wants circuit order before stops.NoMemory wants e = wants
 
 -- The stop that a step sets on a parcel without one is the parcel's then.
 pub set_wants : (own set why : Option Stop) (stop : Stop) → set ≡ or_else own (Some stop)

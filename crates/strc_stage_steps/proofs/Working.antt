@@ -4,18 +4,15 @@ use Rattle.std.proofs.Common.{Some}
 use Rattle.std.proofs.Common.{None, Result, Ok, Err, inl, inr, if◌then◌else◌}
 use Rattle.strc_work_meaning.specs.declared.word.Word.{Word}
 use Rattle.strc_sched_laws.specs.Machine.{MachineView, Progress, Went, order_run}
-use Rattle.strc_stage_core.specs.declared.stop.Stop.{Stop}
-use Rattle.strc_stage_core.specs.declared.stop.Stop.TheVariants as stops
+use Rattle.strc_sched_outcome.specs.declared.stop.Stop.{Stop}
+use Rattle.strc_sched_outcome.specs.declared.stop.Stop.TheVariants as stops
 use Rattle.strc_stage_core.specs.Parcels.{Load}
 use Rattle.strc_sched_machine.specs.Running.{HasGone}
-use Rattle.strc_sched_machine.specs.declared.machine.Stop as machines
-use Rattle.strc_sched_machine.specs.declared.machine.Stop.TheVariants as fired
 use Rattle.strc_stage_steps.specs.Steps.{StageState, stage_run, machine_entered, machine_left}
 use Rattle.strc_stage_steps.specs.Steps.{due_stop_of, state_of_step, load_of_step, with_machine}
 use Rattle.strc_stage_steps.specs.Steps.{stop_of_run, machine_after, load_after, load_entered}
 use Rattle.strc_stage_steps.specs.Steps.{load_left}
 use Rattle.strc_stage_steps.specs.Steps.{load_worded}
-use Rattle.strc_stage_steps.specs.Stepping.{told}
 
 module _ (state : StageState) (load : Load) (machine : MachineView)
     (is : state.machine ≡ Some machine) where
@@ -45,26 +42,24 @@ module _ (state : StageState) (load : Load) (machine : MachineView)
         ∙ ap (load_after state load) (run_is ∙ went)
 
 -- A run that was stopped.
-pub stops_so : (progress : Progress) (stop : machines.Stop) (before : List (List Word))
+pub stops_so : (progress : Progress) (stop : Stop) (before : List (List Word))
     (after : MachineView) → HasGone progress (Err stop) before after
-    → (stop_of_run progress ≡ Some (told stop)) ⊎ (told stop ≡ stops.NoMemory)
-stops_so progress (fired.Fault node firing cause) before after gone = inl (ap stop_of_run gone.0)
-stops_so progress fired.NoMemory before after gone = inr refl
+    → (stop_of_run progress ≡ Some stop) ⊎ (stop ≡ stops.NoMemory)
+stops_so progress (stops.Fault node firing cause) before after gone = inl (ap stop_of_run gone.0)
+stops_so progress stops.NoMemory before after gone = inr refl
 
 -- So it is due, or memory ran out.
 pub due_or : (state : StageState) (load : Load) (machine : MachineView)
-    → (is : state.machine ≡ Some machine) → (stop : machines.Stop) (before : List (List Word))
+    → (is : state.machine ≡ Some machine) → (stop : Stop) (before : List (List Word))
     (after : MachineView) → HasGone (goes state load machine is) (Err stop) before after
-    → (result : Stop) → result ≡ told stop
-    → (due_stop_of state load state.machine ≡ Some result) ⊎ (result ≡ stops.NoMemory)
-due_or state load machine is stop before after gone result same =
+    → (due_stop_of state load state.machine ≡ Some stop) ⊎ (stop ≡ stops.NoMemory)
+due_or state load machine is stop before after gone =
     go (stops_so (goes state load machine is) stop before after gone)
   where
-    go : ((stop_of_run (goes state load machine is) ≡ Some (told stop))
-        ⊎ (told stop ≡ stops.NoMemory))
-        → (due_stop_of state load state.machine ≡ Some result) ⊎ (result ≡ stops.NoMemory)
-    go (inl due) = inl (due_is state load machine is ∙ due ∙ ap Some (sym same))
-    go (inr none) = inr (same ∙ none)
+    go : (stop_of_run (goes state load machine is) ≡ Some stop) ⊎ (stop ≡ stops.NoMemory)
+        → (due_stop_of state load state.machine ≡ Some stop) ⊎ (stop ≡ stops.NoMemory)
+    go (inl due) = inl (due_is state load machine is ∙ due)
+    go (inr none) = inr none
 
 -- A stage's state with another machine, where it isn't broken.
 pub with_new : (state : StageState) (broken : Bool) → broken ≡ false → {machine next : MachineView}

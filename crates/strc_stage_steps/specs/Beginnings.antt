@@ -10,8 +10,8 @@ use Rattle.strc_sched_laws.specs.Rings.{ring_at}
 use Rattle.strc_sched_laws.specs.Wiring.{ports_at}
 use Rattle.strc_stage_core.specs.Actors as actors
 use Rattle.strc_stage_core.specs.States.{Start, IsStart}
-use Rattle.strc_stage_core.specs.declared.stop.Stop.{Stop}
-use Rattle.strc_stage_core.specs.declared.stop.Stop.TheVariants as stop
+use Rattle.strc_sched_outcome.specs.declared.stop.Stop.{Stop}
+use Rattle.strc_sched_outcome.specs.declared.stop.Stop.TheVariants as stop
 use Rattle.strc_stage_core.specs.Parcels.{Load, ParcelView, parcel, empty_load}
 use Rattle.strc_elab_dataflow.specs.Ranges.{stage_within}
 use Rattle.strc_stage_plan.specs.Cuts.{segment_of}

@@ -19,8 +19,8 @@ use Rattle.strc_stage_core.specs.Actors.{Collector, Stage}
 use Rattle.strc_stage_core.specs.Endings.{AreRunning}
 use Rattle.strc_stage_core.specs.Parcels.{Load, ParcelView}
 use Rattle.strc_stage_core.specs.Parts.{Part}
-use Rattle.strc_stage_core.specs.declared.stop.Stop.{Stop}
-use Rattle.strc_stage_core.specs.declared.stop.Stop.TheVariants as stop
+use Rattle.strc_sched_outcome.specs.declared.stop.Stop.{Stop}
+use Rattle.strc_sched_outcome.specs.declared.stop.Stop.TheVariants as stop
 use Rattle.strc_stage_steps.specs.Holding.{IsHeld, IsLoaded}
 use Rattle.strc_stage_steps.specs.Runnings.{IsRunning, Running, resumed}
 use Rattle.strc_stage_steps.specs.Steps.{StageState, Gathered}

@@ -4,7 +4,7 @@ use Rattle.std.specs.Global.{Vec}
 use Rattle.std.specs.Vec.{vec_items}
 use Rattle.strc_work_meaning.specs.declared.word.Word.{Word}
 use Rattle.strc_stage_core.specs.Actors as actors
-use Rattle.strc_stage_core.specs.declared.stop.Stop.{Stop}
+use Rattle.strc_sched_outcome.specs.declared.stop.Stop.{Stop}
 use Rattle.strc_stage_steps.specs.Steps.{Gathered}
 use Rattle.strc_stage_steps.specs.declared.collector.CollectorParts.{CollectorParts}
 

@@ -19,8 +19,8 @@ use Rattle.strc_sched_laws.specs.Simulation.{Simulates}
 use Rattle.strc_stage_core.specs.Events.{is_over, before}
 use Rattle.strc_stage_core.specs.Parts.{AreJoined}
 use Rattle.strc_stage_core.specs.States.{Start, Core, IsState}
-use Rattle.strc_stage_core.specs.declared.stop.Stop.{Stop}
-use Rattle.strc_stage_core.specs.declared.stop.Stop.TheVariants as stop
+use Rattle.strc_sched_outcome.specs.declared.stop.Stop.{Stop}
+use Rattle.strc_sched_outcome.specs.declared.stop.Stop.TheVariants as stop
 use Rattle.strc_stage_core.specs.Parcels.{Load, ParcelView}
 use Rattle.strc_stage_plan.specs.Cuts.{segment_of}
 use Rattle.strc_elab_dataflow.specs.Chains.{meaning_from, graph_from, staging_from}

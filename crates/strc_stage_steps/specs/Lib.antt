@@ -5,7 +5,6 @@ pub mod Stages
 pub mod Stepping
 pub mod Blocks
 pub mod Going
-pub mod Seeing
 pub mod Pipes
 pub mod Steps
 pub mod Memory

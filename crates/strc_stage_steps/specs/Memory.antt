@@ -4,8 +4,8 @@ use Rattle.strc_sched_laws.specs.Machine.{MachineView}
 use Rattle.strc_sched_machine.specs.Memory.{AreQuiet, ComesToWord}
 use Rattle.strc_stage_core.specs.Actors.{Stage, Step}
 use Rattle.strc_stage_core.specs.Parcels.{Load, ParcelView}
-use Rattle.strc_stage_core.specs.declared.stop.Stop.{Stop}
-use Rattle.strc_stage_core.specs.declared.stop.Stop.TheVariants as stop
+use Rattle.strc_sched_outcome.specs.declared.stop.Stop.{Stop}
+use Rattle.strc_sched_outcome.specs.declared.stop.Stop.TheVariants as stop
 use Rattle.strc_stage_steps.specs.Stages.{see}
 use Rattle.strc_stage_steps.specs.Steps.{StageState, machine_entered, stage_work}
 use Rattle.strc_stage_steps.specs.declared.stage.StageParts.{StageParts}

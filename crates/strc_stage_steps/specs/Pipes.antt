@@ -4,7 +4,7 @@ use Rattle.strc_stage_core.specs.declared.event.Event.{Event}
 use Rattle.strc_stage_core.specs.declared.event.Event.TheVariants.{Take, Give}
 use Rattle.strc_stage_core.specs.Events.{may, acts, most_acts}
 use Rattle.strc_stage_core.specs.States.{Start, Core, IsState}
-use Rattle.strc_stage_core.specs.declared.stop.Stop.{Stop}
+use Rattle.strc_sched_outcome.specs.declared.stop.Stop.{Stop}
 use Rattle.strc_stage_core.specs.Parcels.{Load}
 use Rattle.strc_stage_steps.specs.Steps.{StageState, Gathered, stage_work}
 

@@ -30,7 +30,7 @@ use Rattle.strc_stage_core.specs.Actors.{Stage}
 use Rattle.strc_stage_core.specs.Events.{is_over, before}
 use Rattle.strc_stage_core.specs.Parts.{AreJoined}
 use Rattle.strc_stage_core.specs.States.{Start, Core, IsState}
-use Rattle.strc_stage_core.specs.declared.stop.Stop.{Stop}
+use Rattle.strc_sched_outcome.specs.declared.stop.Stop.{Stop}
 use Rattle.strc_stage_core.specs.Parcels.{Load, ParcelView}
 use Rattle.strc_stage_steps.specs.Beginnings.{IsBeginning}
 use Rattle.strc_stage_steps.specs.Blocks.{fits_stage}

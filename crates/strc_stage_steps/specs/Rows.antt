@@ -13,8 +13,8 @@ use Rattle.strc_elab_graph.specs.Graphs.{NodeCode, Filter, FileWriter, Channel}
 use Rattle.strc_stage_core.specs.Actors as actors
 use Rattle.strc_stage_core.specs.Events.{is_over}
 use Rattle.strc_stage_core.specs.States.{Start, Core, IsStart, IsState}
-use Rattle.strc_stage_core.specs.declared.stop.Stop.{Stop}
-use Rattle.strc_stage_core.specs.declared.stop.Stop.TheVariants as stop
+use Rattle.strc_sched_outcome.specs.declared.stop.Stop.{Stop}
+use Rattle.strc_sched_outcome.specs.declared.stop.Stop.TheVariants as stop
 use Rattle.strc_stage_core.specs.Parcels.{Load, ParcelView, parcel, empty_load}
 use Rattle.strc_sched_laws.specs.Machine.{CircuitView, MachineView, Ending, Ended, FaultedIn}
 use Rattle.strc_sched_laws.specs.Machine.{whole_run}

@@ -23,7 +23,7 @@ use Rattle.strc_stage_steps.specs.SplitCutLaws.{IsFusedFission}
 use Rattle.strc_stage_plan.specs.Cuts.{IsCutOf}
 use Rattle.strc_stage_core.specs.Events.{is_over}
 use Rattle.strc_stage_core.specs.States.{Start, Core, IsState}
-use Rattle.strc_stage_core.specs.declared.stop.Stop.{Stop}
+use Rattle.strc_sched_outcome.specs.declared.stop.Stop.{Stop}
 use Rattle.strc_stage_core.specs.Parcels.{Load}
 use Rattle.strc_stage_steps.specs.Beginnings.{IsBeginning}
 use Rattle.strc_stage_steps.specs.Laws.{TellsOutcome}

@@ -3,7 +3,7 @@ use Rattle.std.specs.Prelude.{◌≡◌, true, Option, Some, None, is_some, if�
 use Rattle.strc_stage_core.specs.Actors as actors
 use Rattle.strc_sched_orders.specs.Greedy.{firings_of}
 use Rattle.strc_sched_laws.specs.Machine.{MachineView}
-use Rattle.strc_stage_core.specs.declared.stop.Stop.{Stop}
+use Rattle.strc_sched_outcome.specs.declared.stop.Stop.{Stop}
 use Rattle.strc_sched_machine.specs.Batches.{IsOrderOf, units_of}
 use Rattle.strc_sched_rings.specs.Circuits.{circuit_view}
 use Rattle.strc_sched_machine.specs.Running.{IsMachine, machine_view}

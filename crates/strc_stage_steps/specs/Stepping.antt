@@ -2,12 +2,10 @@
 use Rattle.std.specs.Prelude.{◌≡◌, ◌⊎◌, Option, Some, None}
 use Rattle.strc_stage_core.specs.Actors as actors
 use Rattle.strc_stage_core.specs.Actors.{MayStop, is_passing, stop_of, next, made}
-use Rattle.strc_stage_core.specs.declared.stop.Stop.{Stop}
-use Rattle.strc_stage_core.specs.declared.stop.Stop.TheVariants as stops
+use Rattle.strc_sched_outcome.specs.declared.stop.Stop.{Stop}
+use Rattle.strc_sched_outcome.specs.declared.stop.Stop.TheVariants as stops
 use Rattle.strc_stage_core.specs.Parcels as parcels
 use Rattle.strc_stage_core.specs.Parcels.{ParcelView, parcel}
-use Rattle.strc_sched_machine.specs.declared.machine.Stop as machine
-use Rattle.strc_sched_machine.specs.declared.machine.Stop.TheVariants as fired
 use Rattle.strc_stage_steps.specs.Steps.{StageState, stage_work, due_stop_of, state_of_step}
 use Rattle.strc_stage_steps.specs.Steps.{load_of_step, with_machine}
 use Rattle.strc_stage_steps.specs.declared.stage.StageParts.{StageParts}
@@ -51,8 +49,3 @@ HasWorked before own (Some stop) after result =
     × (see after ≡ with_stop (see before) (state_of after) before.stop)
     × (parcels.emptied result.load ≡ parcels.emptied own.load)
     × (result.stop ≡ own.stop) × (result.last ≡ own.last)
-
--- Why a machine stopped, as a parcel tells it.
-abbrev pub told : machine.Stop → Stop
-told (fired.Fault node firing cause) = stops.Fault node firing cause
-told fired.NoMemory = stops.NoMemory

@@ -3,8 +3,8 @@ use Rattle.std.specs.Prelude.{ℕ, suc, Option, Some, None, List, [], ◌∷◌,
 use Rattle.circular_buffer.specs.Buffer.{buffer}
 use Rattle.strc_work_meaning.specs.declared.word.Word.{Word}
 use Rattle.strc_stage_core.specs.Actors.{Work}
-use Rattle.strc_stage_core.specs.declared.stop.Stop.{Stop}
-use Rattle.strc_stage_core.specs.declared.stop.Stop.TheVariants as stop
+use Rattle.strc_sched_outcome.specs.declared.stop.Stop.{Stop}
+use Rattle.strc_sched_outcome.specs.declared.stop.Stop.TheVariants as stop
 use Rattle.strc_stage_core.specs.Parcels as parcels
 use Rattle.strc_stage_core.specs.Parcels.{Load, block_at, with_block, with_words, filled}
 pub use Rattle.strc_stage_steps.specs.declared.crossing_items.Crossing.{Crossing}

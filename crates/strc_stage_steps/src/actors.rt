@@ -6,7 +6,7 @@ use strc_stage_core::Actor;
 pub trait StageActor: Actor {
     ghost use Rattle.std.specs.Prelude.{◌≡◌, ◌<◌, true, false};
     ghost use Rattle.strc_stage_core.specs.Actors.{Stage, Step};
-    ghost use Rattle.strc_stage_core.specs.declared.stop.Stop.{Stop};
+    ghost use Rattle.strc_sched_outcome.specs.declared.stop.Stop.{Stop};
     ghost use Rattle.strc_stage_core.specs.Parcels.{ParcelView};
     ghost use Rattle.strc_stage_steps.specs.Steps.{StageState, stage_work};
 
@@ -31,7 +31,7 @@ pub trait StageActor: Actor {
 pub trait CollectorActor: Actor {
     ghost use Rattle.std.specs.Prelude.{◌≡◌, ◌<◌, true, false};
     ghost use Rattle.strc_stage_core.specs.Actors.{Collector, Collects};
-    ghost use Rattle.strc_stage_core.specs.declared.stop.Stop.{Stop};
+    ghost use Rattle.strc_sched_outcome.specs.declared.stop.Stop.{Stop};
     ghost use Rattle.strc_stage_core.specs.Parcels.{ParcelView};
     ghost use Rattle.strc_stage_steps.specs.Steps.{Gathered, stage_work};
 

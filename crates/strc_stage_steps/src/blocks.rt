@@ -6,7 +6,8 @@ ghost use Rattle.strc_stage_core.specs.Parcels.{block_at, room_at};
 
 use crate::stage::{Block, StageParts};
 use std::alloc::{AllocError, Global};
-use strc_stage_core::{Parcel, Stop};
+use strc_sched_outcome::stop::Stop;
+use strc_stage_core::Parcel;
 
 /// Has a parcel a block for each of these, with their rooms, and holding what they hold?
 pub(crate) fn fit_blocks(blocks: &[Block], parcel: &Parcel) -> bool

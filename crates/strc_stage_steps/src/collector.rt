@@ -7,7 +7,8 @@ use crate::CollectorActor;
 use crate::collector_step::gather;
 use std::alloc::Global;
 use std::marker::Model;
-use strc_stage_core::{Actor, Parcel, Stop};
+use strc_sched_outcome::stop::Stop;
+use strc_stage_core::{Actor, Parcel};
 use strc_work_meaning::word::Word;
 
 /// What a collector is made of.

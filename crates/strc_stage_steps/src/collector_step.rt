@@ -11,7 +11,8 @@ ghost use Rattle.strc_stage_steps.specs.Gathering.{HasAdded, HaveRoom};
 
 use crate::collector::CollectorParts;
 use std::alloc::AllocError;
-use strc_stage_core::{Parcel, Stop};
+use strc_sched_outcome::stop::Stop;
+use strc_stage_core::Parcel;
 use strc_work_meaning::word::Word;
 
 /// A parcel's words are gathered until the first that is stopped; it is given back empty. One whose

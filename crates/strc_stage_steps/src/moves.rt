@@ -6,16 +6,15 @@ ghost use Rattle.strc_stage_core.specs.Events.{Takes, Gives};
 ghost use Rattle.strc_stage_core.specs.declared.event.Event.TheVariants.{Take, Give};
 ghost use Rattle.strc_stage_core.specs.Moves.{rooms};
 ghost use Rattle.strc_stage_steps.specs.Pipes.{IsSomeState};
-ghost use Rattle.strc_stage_steps.specs.Seeing.{core_of_parts, HasRoom};
+ghost use Rattle.strc_stage_core.specs.Seeing.{core_of_parts, HasRoom};
 ghost use Rattle.strc_stage_steps.specs.Steps.{stage_work};
 
 use crate::actors::{CollectorActor, StageActor};
-use crate::parts::Parts;
 use std::alloc::Global;
 use strc_stage_core::parts::{
     can_give, can_take, hand_is_free, hold, lay, link_before, pull, release,
 };
-use strc_stage_core::{Event, Parcel};
+use strc_stage_core::{Event, Parcel, Parts};
 
 /// Has this actor taken its last parcel? There is none past the collector.
 fn is_done<S: StageActor, C: CollectorActor>(parts: &Parts<S, C>, actor: usize) -> bool

@@ -6,18 +6,17 @@ ghost use Rattle.strc_stage_core.specs.Events.{may, is_over, Happens};
 ghost use Rattle.strc_stage_core.specs.States.{IsStart, first_core};
 ghost use Rattle.strc_stage_steps.specs.Pipes.{Beginning, PipeView, IsStateOf, IsSomeState};
 ghost use Rattle.strc_stage_steps.specs.Pipes.{KeepsStates, IsCounted, IsFirstAllowed};
-ghost use Rattle.strc_stage_steps.specs.Seeing.{ring_of, core_of, core_of_parts, start_of};
+ghost use Rattle.strc_stage_core.specs.Seeing.{ring_of, core_of, core_of_parts, start_of};
 ghost use Rattle.strc_stage_steps.specs.Steps.{stage_work};
 
 use crate::actors::{CollectorActor, StageActor};
 use crate::empty_ring::{empty_hands, links_before};
 use crate::moves::{allows, happen, has_ended};
-use crate::parts::Parts;
 use std::alloc::Global;
 use std::marker::Model;
 use strc_lex_names::memory::NoMemory;
 use strc_stage_core::parts::make_room;
-use strc_stage_core::{Event, Parcel};
+use strc_stage_core::{Event, Parts, Start};
 
 /// Stages, a collector, and the parcels that go round from one to the next, in some state that
 /// events lead to.
@@ -28,7 +27,7 @@ pub struct Pipe<S: StageActor, C: CollectorActor> {
 
 impl<S: StageActor, C: CollectorActor> Model for Pipe<S, C> {
     ghost use Rattle.strc_stage_steps.specs.Pipes.{IsSomeState};
-    ghost use Rattle.strc_stage_steps.specs.Seeing.{Ring, ring_of, core_of_parts, HasRoom};
+    ghost use Rattle.strc_stage_core.specs.Seeing.{Ring, ring_of, core_of_parts, HasRoom};
 
     ghost Value = { Ring S C };
 
@@ -103,16 +102,16 @@ impl<S: StageActor, C: CollectorActor> Pipe<S, C> {
 
     /// A ring before any event: the free parcels are on the link from the collector to the first
     /// stage.
-    pub fn new(
-        alloc: Global,
-        stages: Vec<S>,
-        free: Vec<Parcel>,
-        collector: C,
-    ) -> Result<Pipe<S, C>, NoMemory>
-        requires start { IsStart (start_of S.see C.sees stages.items free.items collector) }
+    pub fn new(alloc: Global, start: Start<S, C>) -> Result<Pipe<S, C>, NoMemory>
+        requires start { IsStart (start_of S.see C.sees start) }
         ensures { IfOk result (λ pipe. core_of S.see C.sees pipe
-            ≡ first_core (start_of S.see C.sees stages.items free.items collector)) }
+            ≡ first_core (start_of S.see C.sees start)) }
     {
+        let Start {
+            stages,
+            free,
+            collector,
+        } = start;
         let links = links_before(alloc, stages.len(), free)?;
         let held = empty_hands(alloc, stages.len())?;
         Pipe::join(Parts {

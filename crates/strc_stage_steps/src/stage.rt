@@ -10,8 +10,9 @@ use std::alloc::Global;
 use std::marker::Model;
 use strc_sched_machine::batches::Order;
 use strc_sched_machine::machine::Machine;
+use strc_sched_outcome::stop::Stop;
 use strc_sched_rings::circuit::Circuit;
-use strc_stage_core::{Actor, Parcel, Stop};
+use strc_stage_core::{Actor, Parcel};
 
 /// What a stage is made of.
 #[derive(Drop)]

@@ -6,15 +6,15 @@ ghost use Rattle.strc_stage_core.specs.Actors.{Step};
 ghost use Rattle.strc_stage_steps.specs.Memory.{StopsOnlyForWords, WantsWordOfStage};
 ghost use Rattle.strc_stage_steps.specs.Steps.{stage_work};
 ghost use Rattle.strc_stage_steps.specs.Stages.{IsStage, see, state_of};
-ghost use Rattle.strc_stage_steps.specs.Stepping.{HasRun, HasWorked, told};
+ghost use Rattle.strc_stage_steps.specs.Stepping.{HasRun, HasWorked};
 
 use crate::incoming_items::enter;
 use crate::outgoing_items::leave;
 use crate::stage::StageParts;
 use crate::stage_words::hand_words;
 use std::alloc::Global;
-use strc_sched_machine::machine;
-use strc_stage_core::{Parcel, Stop};
+use strc_sched_outcome::stop::Stop;
+use strc_stage_core::Parcel;
 
 /// A parcel becomes another one, and the stage is a round further. It is stopped out of memory
 /// only where one of its nodes has a word to give.
@@ -88,24 +88,6 @@ fn work(stage: &mut StageParts, alloc: Global, parcel: &mut Parcel) -> Option<St
             hand_words(&mut stage.machine, alloc, &stage.tapes, parcel);
             None
         }
-        Err(stop) => Some(stop_of(stop)),
-    }
-}
-
-/// Why the machine stopped, as a parcel tells it.
-fn stop_of(stop: machine::Stop) -> Stop
-    ensures { result ≡ told stop }
-{
-    match stop {
-        machine::Stop::Fault {
-            node,
-            firing,
-            cause,
-        } => Stop::Fault {
-            node,
-            firing,
-            cause,
-        },
-        machine::Stop::NoMemory => Stop::NoMemory,
+        Err(stop) => Some(stop),
     }
 }

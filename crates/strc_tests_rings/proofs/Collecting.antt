@@ -3,7 +3,7 @@ use Rattle.std.proofs.Common.{◌≡◌, refl, ℕ, suc, Bool, true, false, cond
 use Rattle.std.proofs.Common.{Some, None, is_some}
 use mathlib.Core.Logic.{inl}
 use Rattle.strc_stage_core.specs.Actors.{Collects, collected, returned, or_else}
-use Rattle.strc_stage_core.specs.declared.stop.Stop.{Stop}
+use Rattle.strc_sched_outcome.specs.declared.stop.Stop.{Stop}
 use Rattle.strc_stage_core.specs.Parcels.{Load, ParcelView, parcel, emptied}
 use Rattle.strc_stage_steps.specs.Steps.{stage_work}
 use Rattle.strc_tests_rings.specs.Toys.{counter, counted, is_done}

@@ -3,8 +3,8 @@ use Rattle.std.proofs.Common.{◌≡◌, refl, ℕ, suc, Bool, true, false, cond
 use Rattle.std.proofs.Common.{Option, Some, None, is_some}
 use mathlib.Core.Logic.{◌⊎◌, inl, inr}
 use Rattle.strc_stage_core.specs.Actors.{Step, next, made, is_passing, is_marked, stop_of, or_else}
-use Rattle.strc_stage_core.specs.declared.stop.Stop.{Stop}
-use Rattle.strc_stage_core.specs.declared.stop.Stop.TheVariants as stop
+use Rattle.strc_sched_outcome.specs.declared.stop.Stop.{Stop}
+use Rattle.strc_sched_outcome.specs.declared.stop.Stop.TheVariants as stop
 use Rattle.strc_stage_core.specs.Parcels.{Load, ParcelView, parcel, emptied}
 use Rattle.strc_stage_steps.specs.Steps.{stage_work}
 use Rattle.strc_tests_rings.specs.Toys.{idle_stage, idle_stop, idle_mark, is_done, refusal}

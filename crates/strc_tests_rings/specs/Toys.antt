@@ -2,8 +2,8 @@
 use Rattle.std.specs.Prelude.{ℕ, suc, Bool, cond, ◌||◌, not, eqb, nat_eq, nat_lt, []}
 use Rattle.std.specs.Prelude.{Option, Some, None, is_some}
 use Rattle.strc_stage_core.specs.Actors.{Stage, Collector, or_else}
-use Rattle.strc_stage_core.specs.declared.stop.Stop.{Stop}
-use Rattle.strc_stage_core.specs.declared.stop.Stop.TheVariants as stop
+use Rattle.strc_sched_outcome.specs.declared.stop.Stop.{Stop}
+use Rattle.strc_sched_outcome.specs.declared.stop.Stop.TheVariants as stop
 use Rattle.strc_stage_core.specs.Parcels.{ParcelView}
 use Rattle.strc_stage_steps.specs.Steps.{StageState, Gathered}
 

@@ -1,6 +1,6 @@
 -- What the core sees of toys.
 use Rattle.strc_stage_core.specs.Actors.{Stage, Collector}
-use Rattle.strc_stage_core.specs.declared.stop.Stop.{Stop}
+use Rattle.strc_sched_outcome.specs.declared.stop.Stop.{Stop}
 use Rattle.strc_stage_steps.specs.Steps.{StageState, Gathered}
 use Rattle.strc_tests_rings.specs.declared.idle_stages.Idle.{Idle}
 use Rattle.strc_tests_rings.specs.declared.collectors.Counter.{Counter}

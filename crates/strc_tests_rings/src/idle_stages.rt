@@ -6,7 +6,8 @@ ghost use Rattle.strc_stage_core.specs.Parcels.{parcel, emptied};
 ghost use Rattle.strc_tests_rings.specs.Toys.{idle_stop, idle_mark};
 
 use std::alloc::Global;
-use strc_stage_core::{Actor, Parcel, Stop};
+use strc_sched_outcome::stop::Stop;
+use strc_stage_core::{Actor, Parcel};
 use strc_stage_steps::StageActor;
 
 /// In one round memory is refused to it.

@@ -5,7 +5,8 @@ use std::sync::Wait;
 use std::test::Fail;
 use std::thread;
 use strc_run_links::{Rx, Tx, close, link};
-use strc_stage_core::{Parcel, Stop};
+use strc_sched_outcome::stop::Stop;
+use strc_stage_core::Parcel;
 use strc_work_meaning::fault::{Cause, LocatedCause, Trapped};
 
 /// A parcel that is known again by the number of a firing.

@@ -1,7 +1,8 @@
 // A parcel as it is filled, stopped and emptied.
 
 use std::alloc::Global;
-use strc_stage_core::{Parcel, Stop};
+use strc_sched_outcome::stop::Stop;
+use strc_stage_core::Parcel;
 use strc_work_meaning::fault::{Cause, LocatedCause, Trapped};
 
 /// A parcel with a block of two items and a tape.

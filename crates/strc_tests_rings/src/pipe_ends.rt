@@ -5,7 +5,7 @@ use crate::idle_stages::Idle;
 use crate::pipes::ring;
 use std::alloc::Global;
 use std::test::Fail;
-use strc_stage_core::Stop;
+use strc_sched_outcome::stop::Stop;
 use strc_stage_steps::{Event, Pipe};
 
 /// How many events happen, up to so many.

@@ -8,7 +8,7 @@ use crate::collectors::Counter;
 use crate::idle_stages::Idle;
 use std::alloc::Global;
 use strc_lex_names::memory::NoMemory;
-use strc_stage_core::Parcel;
+use strc_stage_core::{Parcel, Start};
 use strc_stage_steps::Pipe;
 
 fn idle(first: bool, rounds: u32, refused: u32) -> Idle
@@ -49,5 +49,12 @@ pub fn ring(alloc: Global, rounds: u32, refused: u32) -> Result<Pipe<Idle, Count
         stop: None,
         finished: rounds == 0,
     };
-    Pipe::new(alloc, stages, free, collector)
+    Pipe::new(
+        alloc,
+        Start {
+            stages,
+            free,
+            collector,
+        },
+    )
 }

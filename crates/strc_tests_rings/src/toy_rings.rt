@@ -45,14 +45,12 @@ pub fn ring(alloc: Global, count: u32, rounds: u32) -> Option<Start<Marker, Coun
 }
 
 fn parcels_in(parts: &Parts<Marker, Counter>) -> usize {
-    let mut count = parts
-        .queue
-        .len()
-        .wrapping_add(parts.held.is_some() as usize);
-    for part in parts.parts.iter() {
-        count = count
-            .wrapping_add(part.queue.len())
-            .wrapping_add(part.held.is_some() as usize);
+    let mut count = 0usize;
+    for link in parts.links.iter() {
+        count = count.wrapping_add(link.len());
+    }
+    for held in parts.held.iter() {
+        count = count.wrapping_add(held.is_some() as usize);
     }
     count
 }
@@ -65,7 +63,8 @@ fn two_stages_have_three_rounds(rt: HostRuntime) -> Result<(), Fail> {
         .ok()
         .ok_or("no parts")?;
     assert_eq!(rt; parts.collector.good, 3);
-    assert_eq!(rt; parts.parts.len(), 2);
+    assert_eq!(rt; parts.stages.len(), 2);
+    assert_eq!(rt; parts.links.len(), 3);
     assert_eq!(rt; parcels_in(&parts), 4);
     Ok(())
 }

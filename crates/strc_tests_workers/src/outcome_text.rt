@@ -3,7 +3,7 @@
 
 use std::alloc::{AllocError, Global};
 use strc_sched_outcome::outcome::{Outcome, Round, Tape};
-use strc_stage_core::Stop;
+use strc_sched_outcome::stop::Stop;
 use strc_stage_steps::CollectorParts;
 use strc_work_meaning::fault::Cause;
 use strc_work_meaning::word::Word;

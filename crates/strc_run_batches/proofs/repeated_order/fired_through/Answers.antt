@@ -4,7 +4,7 @@ use Rattle.strc_sched_laws.specs.Machine.{order_run}
 use Rattle.strc_sched_rings.specs.Circuits.{circuit_view}
 use Rattle.strc_sched_machine.specs.Batches.{units_of}
 use Rattle.strc_sched_machine.specs.Running.{HasGone, machine_view}
-use Rattle.strc_sched_machine.specs.declared.machine.Stop.{Stop}
+use Rattle.strc_sched_outcome.specs.declared.stop.Stop.{Stop}
 use Rattle.strc_run_batches.proofs.Turns.{stopped_in, went_first, went_more}
 use Rattle.strc_run_batches.proofs.repeated_order.fired_through.Goals as goal
 

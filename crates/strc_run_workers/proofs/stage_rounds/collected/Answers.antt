@@ -11,11 +11,10 @@ run_ring-requires-send-S g c κs within = param_send 0 _ (arg_send _ no _ stage_
 pub driven-requires : goal.driven-requires
 driven-requires g c = (
   start_of c.args.ring,
-  left_state c.args.ring c.requires.start c.in_ok-ended.ended
-      c.in_ok-ended.ensures,
+  left_state c.args.ring c.requires.start c.in_ok-parts.parts c.in_ok-parts.ensures,
 )
 
 pub returns : goal.returns
 returns g c =
-    c.in_ok-driven.ensures (start_of c.args.ring) (left_state c.args.ring c.requires.start
-    c.in_ok-ended.ended c.in_ok-ended.ensures)
+    c.in_ok-driven.ensures (start_of c.args.ring)
+    (left_state c.args.ring c.requires.start c.in_ok-parts.parts c.in_ok-parts.ensures)

@@ -1,6 +1,6 @@
 use Rattle.std.proofs.Common.{◌∙◌, sym}
 use Rattle.std.proofs.lemmas.List.{length-map}
-use Rattle.strc_stage_steps.specs.Seeing.{core_of_parts}
+use Rattle.strc_stage_core.specs.Seeing.{core_of_parts}
 use Rattle.strc_stage_steps.specs.Steps.{stage_work}
 use Rattle.strc_stage_steps.proofs.Timely.{unfinished_has_rounds}
 use Rattle.strc_stage_steps.proofs.Moving.{allows_take, allows_give}

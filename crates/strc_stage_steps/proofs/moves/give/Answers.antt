@@ -1,6 +1,6 @@
 use Rattle.std.proofs.Common.{refl, vec_items, vec_capacity}
 use Rattle.strc_stage_core.proofs.Reading.{give_holding, give_room, gives_by}
-use Rattle.strc_stage_steps.specs.Seeing.{core_of_parts}
+use Rattle.strc_stage_core.specs.Seeing.{core_of_parts}
 use Rattle.strc_stage_steps.specs.Steps.{stage_work}
 use Rattle.strc_stage_steps.proofs.moves.give.Goals as goal
 

@@ -2,7 +2,7 @@ use Rattle.std.proofs.Common.{◌∙◌, ap, set, Some, slice_get, vec_items}
 use Rattle.strc_stage_core.specs.Events.{is_free}
 use Rattle.strc_stage_core.proofs.Reading.{take_free}
 use Rattle.strc_stage_core.proofs.Taking.{taker_has_rounds}
-use Rattle.strc_stage_steps.specs.Seeing.{core_of_parts}
+use Rattle.strc_stage_core.specs.Seeing.{core_of_parts}
 use Rattle.strc_stage_steps.specs.Steps.{stage_work}
 use Rattle.strc_stage_steps.proofs.Moving.{from_is, from_loaded, takes_parts}
 use Rattle.strc_stage_steps.proofs.moves.take.Goals as goal

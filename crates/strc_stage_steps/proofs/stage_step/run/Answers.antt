@@ -1,6 +1,6 @@
 use Rattle.std.proofs.Common.{◌≡◌, ◌∙◌, refl, sym, ap, subst, Option, Some, None, is_some}
 use Rattle.strc_stage_core.specs.Actors.{or_else}
-use Rattle.strc_stage_core.specs.declared.stop.Stop.{Stop}
+use Rattle.strc_sched_outcome.specs.declared.stop.Stop.{Stop}
 use Rattle.strc_stage_core.specs.Parcels.{ParcelView, parcel, emptied}
 use Rattle.strc_stage_steps.specs.Steps.{with_machine}
 use Rattle.strc_stage_steps.specs.Stages.{see, state_of}

@@ -2,7 +2,7 @@ use Rattle.std.proofs.Common.{◌≡◌, ◌∙◌, refl, sym, ap, subst, arith,
 use Rattle.strc_stage_core.specs.Actors as actors
 use Rattle.strc_stage_core.specs.Parcels.{ParcelView, parcel}
 use Rattle.strc_stage_steps.specs.Steps.{StageState}
-use Rattle.strc_stage_core.specs.declared.stop.Stop.{Stop}
+use Rattle.strc_sched_outcome.specs.declared.stop.Stop.{Stop}
 use Rattle.strc_stage_steps.specs.Stages.{see}
 use Rattle.strc_stage_steps.specs.Memory.{WantsWordOfStage}
 use Rattle.strc_stage_steps.proofs.Steps.{step_is}

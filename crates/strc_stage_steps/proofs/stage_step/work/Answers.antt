@@ -11,9 +11,9 @@ use Rattle.strc_stage_steps.specs.Steps.{StageState, machine_left, rings_left, w
 use Rattle.strc_stage_steps.specs.Steps.{load_left}
 use Rattle.strc_stage_steps.specs.Steps.{load_worded, load_entered, machine_entered}
 use Rattle.strc_stage_steps.specs.Stages.{state_of}
-use Rattle.strc_stage_steps.specs.Stepping.{told, with_stop}
+use Rattle.strc_stage_steps.specs.Stepping.{with_stop}
 use Rattle.strc_stage_steps.proofs.Filling.{emptied_entered}
-use Rattle.strc_stage_steps.proofs.Wanting.{none_wants, told_wants}
+use Rattle.strc_stage_steps.proofs.Wanting.{none_wants, stop_wants}
 use Rattle.strc_stage_steps.proofs.Working.{due_or, none_due, state_is, load_is, with_new}
 use Rattle.strc_stage_steps.proofs.stage_step.work.Goals as goal
 
@@ -83,7 +83,7 @@ returns-in-Err-clause-worked c =
     let gone = subst (λ (m : MachineView). HasGone (order_run state.circuit state.order m)
     (Err c.in-Err.stop) (machine_view c.enter.new.machine).words
     (machine_view c.fire_order.new.self)) entered c.in-Err.ensures.gone in (
-      due_or state own.load machine is c.in-Err.stop _ _ gone c.stop_of.result c.stop_of.ensures,
+      due_or state own.load machine is c.in-Err.stop _ _ gone,
       refl,
       refl,
       ap (λ (p : ParcelView). emptied p.load) parcel_in
@@ -110,7 +110,6 @@ returns-in-Err-clause-memory c =
     λ e. (
       machine,
       is,
-      told_wants state.circuit state.order _ c.in-Err.stop c.stop_of.result
-          c.stop_of.ensures wants e,
+      stop_wants state.circuit state.order _ c.in-Err.stop wants e,
     )
     )

@@ -1,7 +1,7 @@
 use Rattle.std.proofs.Common.{sym, subst}
 use Rattle.strc_stage_steps.specs.Collectors.{sees}
 use Rattle.strc_stage_steps.specs.Pipes.{IsSomeState}
-use Rattle.strc_stage_steps.specs.Seeing.{Ring, core_of}
+use Rattle.strc_stage_core.specs.Seeing.{Ring, core_of}
 use Rattle.strc_stage_steps.specs.Stages.{see}
 use Rattle.strc_stage_steps.specs.declared.collector.CollectorParts.{CollectorParts}
 use Rattle.strc_stage_steps.specs.declared.stage.StageParts.{StageParts}

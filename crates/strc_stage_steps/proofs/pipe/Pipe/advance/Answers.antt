@@ -1,5 +1,5 @@
 use Rattle.std.proofs.Common.{ap, arith, length}
-use Rattle.strc_stage_steps.specs.Seeing.{core_of}
+use Rattle.strc_stage_core.specs.Seeing.{core_of}
 use Rattle.strc_stage_steps.proofs.Advancing.{none_at_all}
 use Rattle.strc_stage_steps.proofs.pipe.Pipe.advance.Goals as goal
 

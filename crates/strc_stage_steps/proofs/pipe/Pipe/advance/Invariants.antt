@@ -1,5 +1,5 @@
 use Rattle.std.proofs.Common.{◌≡◌}
-use Rattle.strc_stage_steps.specs.Seeing.{core_of}
+use Rattle.strc_stage_core.specs.Seeing.{core_of}
 use Rattle.strc_stage_steps.proofs.Advancing.{NoneBefore}
 use Rattle.strc_stage_steps.proofs.pipe.Pipe.advance.Given as goal
 

@@ -1,7 +1,7 @@
 use Rattle.std.proofs.Common.{◌+◌, ◌-◌}
 use Rattle.strc_stage_core.specs.Events.{acts, most_acts}
 use Rattle.strc_stage_steps.specs.Pipes.{KeepsStates}
-use Rattle.strc_stage_steps.specs.Seeing.{core_of}
+use Rattle.strc_stage_core.specs.Seeing.{core_of}
 use Rattle.strc_stage_steps.proofs.pipe.Pipe.drive.Given as goal
 
 abbrev pub invariant-loop-alloc : goal.invariant-loop-alloc

@@ -1,5 +1,5 @@
 use Rattle.std.proofs.Common.{ap}
-use Rattle.strc_stage_steps.specs.Seeing.{core_of, core_of_parts}
+use Rattle.strc_stage_core.specs.Seeing.{core_of, core_of_parts}
 use Rattle.strc_stage_steps.specs.Steps.{stage_work}
 use Rattle.strc_stage_steps.proofs.Happening.{some_after, state_kept, counted, room_stays}
 use Rattle.strc_stage_steps.proofs.pipe.Pipe.event.Goals as goal

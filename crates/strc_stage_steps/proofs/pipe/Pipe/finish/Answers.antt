@@ -1,5 +1,5 @@
 use Rattle.std.proofs.Common.{refl, ap}
-use Rattle.strc_stage_steps.specs.Seeing.{core_of, core_of_parts}
+use Rattle.strc_stage_core.specs.Seeing.{core_of, core_of_parts}
 use Rattle.strc_stage_steps.specs.Steps.{stage_work}
 use Rattle.strc_stage_steps.proofs.Happening.{goes_on}
 use Rattle.strc_stage_steps.proofs.pipe.Pipe.finish.Goals as goal

@@ -1,38 +1,32 @@
 use Rattle.std.proofs.Common.{◌≡◌, ap, ◌∙◌}
 use Rattle.std.proofs.lemmas.Result.{IfOk-weaker}
+use Rattle.strc_stage_core.specs.Seeing.{ring_of, core_of, start_of}
 use Rattle.strc_stage_core.specs.States.{first_core}
 use Rattle.strc_stage_steps.specs.Steps.{stage_work}
-use Rattle.strc_stage_steps.specs.declared.parts.Parts.{Parts}
-use Rattle.strc_stage_steps.specs.Seeing.{ring_of, core_of, start_of}
-use Rattle.strc_stage_steps.proofs.Beginning.{parts_are_first, parts_are_state}
+use Rattle.strc_stage_steps.proofs.Beginning.{parts, parts_are_first, parts_are_state}
 use Rattle.strc_stage_steps.proofs.pipe.Pipe.new.Goals as goal
 
 pub join-requires : goal.join-requires
 join-requires g c = record {
-  state = parts_are_state g.S.StageActor.see g.C.CollectorActor.sees (record {
-    stages = c.args.stages;
-    links = c.in_ok-links.links;
-    held = c.in_ok-held.held;
-    collector = c.args.collector;
-  }) c.args.free.items c.len.result c.len-2.result (c.len.ensures ∙ c.args.stages.ok.0)
-      (c.len-2.ensures ∙ c.args.stages.ok.0) c.in_ok-links.ensures c.in_ok-held.ensures
-      stage_work c.requires.start;
+  state = parts_are_state g.S.StageActor.see g.C.CollectorActor.sees c.args.start
+      c.in_ok-links.links c.in_ok-held.held c.len.result c.len-2.result
+      (c.len.ensures ∙ c.args.start.stages.ok.0) (c.len-2.ensures ∙ c.args.start.stages.ok.0)
+      c.in_ok-links.ensures c.in_ok-held.ensures stage_work c.requires.start;
 }
 
 pub returns : goal.returns
 returns g c =
     let see = g.S.StageActor.see in
     let sees = g.C.CollectorActor.sees in
-    let parts : Parts g.row.S.Denot g.row.C.Denot = record {
-      stages = c.args.stages;
-      links = c.in_ok-links.links;
-      held = c.in_ok-held.held;
-      collector = c.args.collector;
-    } in
-    let same = parts_are_first see sees parts c.args.free.items c.len.result c.len-2.result
-    (c.len.ensures ∙ c.args.stages.ok.0) (c.len-2.ensures ∙ c.args.stages.ok.0)
+    let start = c.args.start in
+    let links = c.in_ok-links.links in
+    let held = c.in_ok-held.held in
+    let same = parts_are_first see sees start links held c.len.result c.len-2.result
+    (c.len.ensures ∙ start.stages.ok.0) (c.len-2.ensures ∙ start.stages.ok.0)
     c.in_ok-links.ensures c.in_ok-held.ensures in
-    IfOk-weaker c.join.result (λ pipe. pipe ≡ ring_of parts)
-    (λ pipe. core_of see sees pipe
-    ≡ first_core (start_of see sees c.args.stages.items c.args.free.items c.args.collector))
+    IfOk-weaker c.join.result
+    (λ pipe. pipe ≡ ring_of (parts see sees start links held c.len.result c.len-2.result
+    (c.len.ensures ∙ start.stages.ok.0) (c.len-2.ensures ∙ start.stages.ok.0)
+    c.in_ok-links.ensures c.in_ok-held.ensures))
+    (λ pipe. core_of see sees pipe ≡ first_core (start_of see sees start))
     (λ pipe is. ap (core_of see sees) is ∙ same) c.join.ensures

@@ -2,10 +2,12 @@
 use Rattle.std.specs.Prelude.{◌*◌, List, map, length, Option}
 use Rattle.strc_stage_core.specs.Actors.{Stage, Collector}
 use Rattle.strc_stage_core.specs.Moves.{queues, rooms, AreRoomy}
-use Rattle.strc_stage_core.specs.States.{Start, Core}
-use Rattle.strc_stage_core.specs.declared.stop.Stop.{Stop}
+use Rattle.strc_stage_core.specs.States.{Core}
+use Rattle.strc_stage_core.specs.States.{Start as CoreStart}
+use Rattle.strc_sched_outcome.specs.declared.stop.Stop.{Stop}
 use Rattle.strc_stage_core.specs.Parcels.{ParcelView, Load}
-use Rattle.strc_stage_steps.specs.declared.parts.Parts.{Parts}
+use Rattle.strc_stage_core.specs.declared.ring.Parts.{Parts}
+use Rattle.strc_stage_core.specs.declared.ring.Start.{Start}
 
 -- Stages and collector; the link after each of them, in order, and what each holds, those of the
 -- collector last.
@@ -38,12 +40,12 @@ module _ {S C State Total : Type 0} (see : S → Stage State Stop) (sees : C →
     core_of_parts parts = core_of (ring_of parts)
 
     -- What a ring begins with. All have finished at first where the collector has.
-    abbrev pub start_of : List S → List ParcelView → C → Start State Load Stop Total
-    start_of stages free collector = record {
-      stages = map see stages;
-      free = free;
-      collector = sees collector;
-      done = (sees collector).finished;
+    abbrev pub start_of : Start S C → CoreStart State Load Stop Total
+    start_of start = record {
+      stages = map see start.stages.items;
+      free = start.free.items;
+      collector = sees start.collector;
+      done = (sees start.collector).finished;
     }
 
     -- Each link has room for all parcels.

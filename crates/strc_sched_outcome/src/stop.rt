@@ -2,10 +2,10 @@
 
 use strc_work_meaning::fault::LocatedCause;
 
-/// Why a parcel is stopped.
+/// Why a run stops: what its machine comes to, and what parcels carry from stage to stage.
 #[derive(Debug, Drop)]
 pub enum Stop {
-    /// A firing of a node faults.
+    /// A firing of a node, by its number, faults.
     Fault {
         node: u32,
         firing: u64,
