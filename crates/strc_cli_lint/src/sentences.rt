@@ -49,7 +49,9 @@ fn push_mask(message: &mut Message, by: Option<i32>) -> Result<(), NoMemory> {
         _ => 8,
     };
     message.hint()?;
-    message.add(b"to shift zeros in, take the bits that stay: `x >> ")?;
+    message.add(
+        b"it rounds down, as fixed point does; to shift zeros in, take the bits that stay: `x >> ",
+    )?;
     message.number(u64::from(bits))?;
     message.add(b" & ")?;
     message.number(u64::from(u32::MAX >> bits))?;

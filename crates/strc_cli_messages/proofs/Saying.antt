@@ -1,5 +1,5 @@
 -- Sentences, piece by piece.
-use Rattle.std.proofs.Common.{◌≡◌, ◌∙◌, ap, refl, sym, ℕ, ◌-◌, ◌==◌, List, [], ◌++◌, Option}
+use Rattle.std.proofs.Common.{◌≡◌, ◌∙◌, ap, refl, sym, ℕ, ◌-◌, ◌==◌, List, ◌++◌, Option}
 use Rattle.std.proofs.Common.{Bool, true, false, ℤ, pos, negsuc, arith}
 use Rattle.std.proofs.lemmas.Bool.Decides.{nat_tests}
 use Rattle.std.proofs.lemmas.Int.{ints}
@@ -45,7 +45,7 @@ in_five old one two three four new a b c d e first second third fourth fifth =
     (in_four old one two three four a b c d first second third fourth) fifth
 
 -- where there are some, their number isn't 0
-counted : (count : ℕ) → (count ≡ 0 → ⊥) → (count == 0) ≡ false
+pub counted : (count : ℕ) → (count ≡ 0 → ⊥) → (count == 0) ≡ false
 counted count some = grind (arith, nat_tests)
 
 -- which index was used

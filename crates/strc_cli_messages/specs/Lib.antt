@@ -1,3 +1,5 @@
+pub mod RefusalWords
+pub mod RuleWords
 pub mod Sentences
 pub mod Sites
 pub mod Told

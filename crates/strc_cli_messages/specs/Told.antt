@@ -14,6 +14,7 @@ use Rattle.strc_parse.specs.Texts.{HasTokens}
 use Rattle.strc_elab_graph.specs.NodeView.{GraphParts}
 use Rattle.strc_elab_graph.specs.declared.graph.Node.{Node}
 use Rattle.strc_work_rules.specs.declared.site.Site.{Site}
+use Rattle.strc_work_rules.specs.declared.site.Mismatch.{Mismatch}
 use Rattle.strc_work_rules.specs.declared.site.Mismatch.TheVariants as mismatch
 use Rattle.strc_elab_statements.specs.MainStreams.{can_be_main}
 use Rattle.strc_elab_stream.specs.declared.stream.Stream.{Stream}
@@ -32,6 +33,8 @@ use Rattle.strc_cli_places.specs.Nodes.{heading_of, node_statement}
 use Rattle.strc_cli_places.specs.Pairs.{AreApart, first_readers, first_writer}
 use Rattle.strc_cli_places.specs.Parts.{declarations_of}
 use Rattle.strc_cli_places.specs.Refused.{MarksFaultOf, body_fired}
+use Rattle.strc_cli_messages.specs.RefusalWords.{AreAloneWords, AreMainPairWords}
+use Rattle.strc_cli_messages.specs.RefusalWords.{AreNodePairWords, AreTwiceWords}
 use Rattle.strc_cli_messages.specs.Sentences.{IsFaultSentence}
 use Rattle.strc_cli_messages.specs.Sites.{site_of}
 use Rattle.strc_sched_outcome.specs.declared.outcome.Round.{Round}
@@ -87,6 +90,57 @@ MarksSite text tokens asked program order graph site refusal.Disconnected place 
 MarksSite text tokens asked program order graph site refused place =
     MarksRefusal text tokens asked program order graph site refused place
 
+-- the sentence on two nodes, or where they aren't known that on the site
+abbrev pub AreSecondWords : (Alone : List ℕ → Type 0) → Preorder → Refusal → Option (ℕ × ℕ)
+    → (words : List ℕ) → Type 0
+AreSecondWords Alone order refused None words = Alone words
+AreSecondWords Alone order refused (Some pair) words = AreNodePairWords order refused pair words
+
+abbrev pub ArePairWords : (Alone : List ℕ → Type 0) → Option Preorder → Refusal
+    → (words : List ℕ) → Type 0
+ArePairWords Alone None refused words = Alone words
+ArePairWords Alone (Some order) refused words = (pair : Option (ℕ × ℕ))
+    × IsPair refused order pair × AreSecondWords Alone order refused pair words
+
+-- the same of two streams that could be the main one
+abbrev pub AreMainWords : (Alone : List ℕ → Type 0) → Option Decl → (words : List ℕ) → Type 0
+AreMainWords Alone None words = Alone words
+AreMainWords Alone (Some second) words = AreMainPairWords second words
+
+-- and of a stream that is declared again
+abbrev pub AreStreamWords : (Alone : List ℕ → Type 0) → (text : List ℕ) → Option Mismatch
+    → (place : Option Span) → (words : List ℕ) → Type 0
+AreStreamWords Alone text (Some (mismatch.StreamTwice first)) (Some second) words =
+    AreTwiceWords text second words
+AreStreamWords Alone text broken place words = Alone words
+
+-- what the sentence says of a refusal: of two parts, or else of one; `Alone` says it of one
+abbrev pub IsSentence : (Alone : List ℕ → Type 0) → (text : List ℕ) → Option Program
+    → Option Preorder → Site → Refusal → (sentence : List ℕ) → Type 0
+IsSentence Alone text program order site refusal.ManyMains sentence =
+    AreMainWords Alone (second_main (declarations_of program)) sentence
+IsSentence Alone text program order site refusal.TwoInputs sentence =
+    ArePairWords Alone order refusal.TwoInputs sentence
+IsSentence Alone text program order site (refusal.TapeTwice node) sentence =
+    ArePairWords Alone order (refusal.TapeTwice node) sentence
+IsSentence Alone text program order site refusal.Disconnected sentence =
+    ArePairWords Alone order refusal.Disconnected sentence
+IsSentence Alone text program order site (refusal.TypeMismatch stream) sentence =
+    AreStreamWords Alone text site.mismatch site.place sentence
+IsSentence Alone text program order site refused sentence = Alone sentence
+
+-- the sentence of a refusal at a site, by a message that marks this place
+abbrev pub IsSentenceOf : (text : List ℕ) → List Token → (asked : Option (List ℕ))
+    → Option Program → Option Preorder → Option GraphParts → Site → Refusal
+    → (place : Option Span) → (sentence : List ℕ) → Type 0
+IsSentenceOf text tokens asked program order graph site refused place sentence =
+    IsSentence (AreAloneWords text tokens asked program graph site place refused) text program
+    order site refused sentence
+
+-- a message whose sentence stays
+abbrev pub KeepsSentence : (old new : MessageView) → Type 0
+KeepsSentence old new = new.sentence ≡ old.sentence
+
 -- a message of this kind that is about no part of a text
 abbrev pub TellsOfKind : MessageKind → MessageView → Type 0
 TellsOfKind kind message = (message.kind ≡ kind) × (message.place ≡ None)
@@ -101,6 +155,7 @@ pub record TellsSecond (tokens : List Token) (asked : Option (List ℕ)) (progra
   pub pair : ℕ × ℕ
   pub is_pair : IsPair refused order (Some pair)
   pub place : message.place ≡ heading_of tokens (node_statement asked program (Some order) pair.1)
+  pub says : AreNodePairWords order refused pair message.sentence
   pub plain : IsPlain message
 
 -- such a message, where the two are known
@@ -113,26 +168,49 @@ TellsNodes tokens asked program (Some order) refused (Some message) =
     TellsSecond tokens asked program order refused message
 
 -- a message about a stream's name that is declared again, at the site
-pub record TellsAgain (tokens : List Token) (site : Site) (message : MessageView) : Type 0 where
+pub record TellsAgain (text : List ℕ) (tokens : List Token) (site : Site) (message : MessageView)
+    : Type 0 where
   pub first : Option Span
   pub second : Span
   pub twice : site.mismatch ≡ Some (mismatch.StreamTwice first)
   pub again : site.place ≡ Some second
   pub place : message.place ≡ Some (heading second tokens)
+  pub says : AreTwiceWords text second message.sentence
   pub plain : IsPlain message
 
--- a message about the part that is marked
+-- such a message, where one is
+abbrev pub IsNotAgain : Option Mismatch → (place : Option Span) → Type 0
+IsNotAgain (Some (mismatch.StreamTwice first)) (Some second) = ⊥
+IsNotAgain broken place = ⊤
+
+abbrev pub TellsIfAgain : (text : List ℕ) → List Token → Site → Option MessageView → Type 0
+TellsIfAgain text tokens site None = IsNotAgain site.mismatch site.place
+TellsIfAgain text tokens site (Some message) = TellsAgain text tokens site message
+
+-- a message about the part that is marked, with the words of the rule that it breaks
 pub record TellsSite (text : List ℕ) (tokens : List Token) (asked : Option (List ℕ))
     (program : Option Program) (order : Option Preorder) (graph : Option GraphParts) (site : Site)
     (refused : Refusal) (message : MessageView) : Type 0 where
   pub marks : MarksSite text tokens asked program order graph site refused message.place
+  pub says : IsSentenceOf text tokens asked program order graph site refused message.place
+      message.sentence
+  pub plain : IsPlain message
+
+-- a message about one part alone
+pub record TellsAlone (text : List ℕ) (tokens : List Token) (asked : Option (List ℕ))
+    (program : Option Program) (order : Option Preorder) (graph : Option GraphParts) (site : Site)
+    (refused : Refusal) (message : MessageView) : Type 0 where
+  pub marks : MarksRefusal text tokens asked program order graph site refused message.place
+  pub says : AreAloneWords text tokens asked program graph site message.place refused
+      message.sentence
   pub plain : IsPlain message
 
 -- a message about the second stream that could be the main one, where there is one
 abbrev pub TellsMains : (text : List ℕ) → List Token → Option Decl → Option MessageView → Type 0
 TellsMains text tokens None None = ⊤
 TellsMains text tokens (Some second) (Some message) =
-    Marks text tokens second.name message.place × IsPlain message
+    Marks text tokens second.name message.place × AreMainPairWords second message.sentence
+    × IsPlain message
 TellsMains text tokens second found = ⊥
 
 -- a message about two parts that don't go together, where they are known: two streams of a name,
@@ -147,6 +225,8 @@ TellsTwo text tokens asked program order graph site (refusal.TapeTwice node) fou
     TellsNodes tokens asked program order (refusal.TapeTwice node) found
 TellsTwo text tokens asked program order graph site refusal.Disconnected found =
     TellsNodes tokens asked program order refusal.Disconnected found
+TellsTwo text tokens asked program order graph site (refusal.TypeMismatch stream) found =
+    TellsIfAgain text tokens site found
 TellsTwo text tokens asked program order graph site refused found =
     IfSome found (TellsSite text tokens asked program order graph site refused)
 
@@ -167,8 +247,9 @@ AreNodesOf None order = order ≡ None
 AreNodesOf (Some stream) None = ⊥
 AreNodesOf (Some stream) (Some order) = IsPreorderOf stream order
 
--- a message about a refusal of a text: about the part of it that breaks the rule, by the text's
--- tokens and its tree, the nodes of the stream that is refused, and its graph
+-- a message about a refusal of a text: about the part of it that breaks the rule, and with that
+-- rule's words, by the text's tokens and its tree, the nodes of the stream that is refused, and its
+-- graph
 pub record TellsOfText (text : List ℕ) (asked : Option (List ℕ)) (placed : PlacedRefusal)
     (message : MessageView) : Type 0 where
   pub tokens : List Token

@@ -1,14 +1,16 @@
 // What a person reads of a run that ends early, or that isn't run.
 
-ghost use Rattle.std.specs.Prelude.{◌≡◌, IfOk, IfSome, OnOk, slice_get};
+ghost use Rattle.std.specs.Prelude.{◌≡◌, IfOk, OnOk, slice_get};
 ghost use Rattle.std.specs.Fmt.{signed_decimal};
 ghost use Rattle.std.specs.Option.{option_map};
 ghost use Rattle.strc_cli_places.specs.Nodes.{MarksName};
 ghost use Rattle.strc_cli_places.specs.Refused as spec;
 ghost use Rattle.strc_cli_places.specs.Refused.{MarksFaultOf};
+ghost use Rattle.strc_cli_statements.specs.Statements.{fault_place};
 ghost use Rattle.strc_cli_diagnostics.specs.Messages.{with_more};
 ghost use Rattle.strc_cli_diagnostics.specs.declared.message.MessageKind.TheVariants as kind;
 ghost use Rattle.strc_cli_source.specs.NodeWords.{Adds};
+ghost use Rattle.strc_cli_messages.specs.RefusalWords as words;
 ghost use Rattle.strc_cli_messages.specs.Sentences as sentences;
 ghost use Rattle.strc_cli_messages.specs.Told as told;
 
@@ -112,11 +114,33 @@ fn place_of_fault(
     let Some(Node::Filter(instance)) = graph.nodes().get(fault.node as usize) else {
         return Ok(None);
     };
-    let cause = fault.cause.cause();
-    if let Some(part) = trapped_part(source, &fault.cause) {
+    place_in_filter(
+        alloc,
+        source,
+        instance,
+        body_fired(fault.firing),
+        fault.cause.cause(),
+        fault.cause.byte(),
+    )
+}
+
+/// What ends a body's firing so at this byte, if that is known, or else the statement; else the
+/// filter.
+fn place_in_filter(
+    alloc: Global,
+    source: Source<'_>,
+    instance: &Instance,
+    body: Body,
+    cause: Cause,
+    byte: Option<usize>,
+) -> Result<Option<Span>, NoMemory>
+    ensures { IfOk result (spec.MarksElse (spec.trapped_part source.entry.tokens.now cause byte)
+        (spec.MarksPart source.entry.text.now source.entry.tokens.now cause instance.now.name
+        (fault_place cause body instance.now.code))) }
+{
+    if let Some(part) = trapped_part(source, cause, byte) {
         return Ok(Some(part));
     }
-    let body = body_fired(fault.firing);
     match faulting_statement(alloc, &instance.code, body, cause)? {
         Some(statement) => Ok(Some(faulting_part(source, statement, cause))),
         None => Ok(place_of_filter(source, instance)),
@@ -241,9 +265,23 @@ pub(crate) fn push_start_fault(
     message: &mut Message,
     cause: Cause,
     trapped: Trapped,
-) -> Result<(), NoMemory> {
-    if cause != Cause::Index || trapped.count == 0 {
-        return Ok(message.add(start_fault_sentence(cause))?);
+) -> Result<(), NoMemory>
+    ensures { OnOk result (message.new
+        ≡ with_more message.old (words.trapped_words cause trapped)) }
+{
+    match cause {
+        Cause::Index => push_start_index(message, trapped),
+        _ => Ok(message.add(start_fault_sentence(cause))?),
+    }
+}
+
+/// Which index is outside of its array, where that was noted.
+fn push_start_index(message: &mut Message, trapped: Trapped) -> Result<(), NoMemory>
+    ensures { OnOk result (message.new
+        ≡ with_more message.old (words.start_index_words trapped)) }
+{
+    if trapped.count == 0 {
+        return Ok(message.add(start_fault_sentence(Cause::Index))?);
     }
     message.add(b"index ")?;
     push_signed(message, trapped.index)?;

@@ -1,5 +1,9 @@
 // Hints on how a refusal can be mended.
 
+ghost use Rattle.std.specs.Prelude.{OnOk};
+ghost use Rattle.strc_cli_syntax.specs.Words.{GoesOn};
+ghost use Rattle.strc_cli_messages.specs.Told as told;
+
 use crate::marked_tokens::{block_has, compares_bits, compares_twice, is_in, looks_back};
 use crate::mismatches::mismatch_hint;
 use strc_cli_diagnostics::message::Message;
@@ -7,7 +11,7 @@ use strc_cli_places::known::Known;
 use strc_cli_source::nearest::nearest_name;
 use strc_cli_source::source::Source;
 use strc_cli_source::spelling::begins;
-use strc_cli_syntax::foreign_words::{DELAYS, push_foreign_hint};
+use strc_cli_syntax::foreign_words::{DELAYS, is_include, push_foreign_hint};
 use strc_cli_syntax::hint_words::push_words;
 use strc_cli_syntax::number_hints::push_number_hint;
 use strc_cli_syntax::syntax_hints::push_syntax_hint;
@@ -27,7 +31,9 @@ pub(crate) fn push_hint(
     refusal: &Refusal,
     site: Site,
     place: Option<Span>,
-) -> Result<(), NoMemory> {
+) -> Result<(), NoMemory>
+    ensures { OnOk result (told.KeepsSentence message.old message.new) }
+{
     match refusal {
         Refusal::UnknownName { name } => push_nearest(message, known, name.as_bytes()),
         Refusal::NoMain => push_main_hint(message, known),
@@ -52,7 +58,8 @@ pub(crate) fn push_hint(
         Refusal::RateUnknown { .. } if is_loop(known.source, place) => {
             push_words(
                 message,
-                b"it goes up to a number or a parameter by `<` or `<=`, or down by `>` or `>=`",
+                b"a loop is counted as in `for (int i = 0; i < n; i++)`: i on the left, n known \
+                    before the run, and a constant step, up or down",
             )
         }
         refusal => push_words(message, hint_of(refusal)),
@@ -68,7 +75,9 @@ fn is_loop(source: Source<'_>, place: Option<Span>) -> bool {
 }
 
 /// How the main stream can be mended, or its name.
-fn push_main_hint(message: &mut Message, known: Known<'_>) -> Result<(), NoMemory> {
+fn push_main_hint(message: &mut Message, known: Known<'_>) -> Result<(), NoMemory>
+    ensures { OnOk result (told.KeepsSentence message.old message.new) }
+{
     match known.source.main {
         Some(name) if known.declaration_named(name.as_bytes()).is_none() => {
             push_nearest(message, known, name.as_bytes())
@@ -81,11 +90,17 @@ fn push_main_hint(message: &mut Message, known: Known<'_>) -> Result<(), NoMemor
 }
 
 /// A hint where no token begins.
-fn push_lexical_hint(message: &mut Message, text: &[u8], at: usize) -> Result<(), NoMemory> {
+fn push_lexical_hint(message: &mut Message, text: &[u8], at: usize) -> Result<(), NoMemory>
+    ensures { OnOk result (told.KeepsSentence message.old message.new) }
+{
     let before = &text[..at.min(text.len())];
     match text.get(at) {
         Some(b'"') if before.ends_with(b"printf(") => {
             let _is_foreign = push_foreign_hint(message, b"printf")?;
+            Ok(())
+        }
+        Some(b'#') if is_include(text, at) => {
+            let _is_foreign = push_foreign_hint(message, b"include")?;
             Ok(())
         }
         Some(b'#') if before.is_empty() || before.ends_with(b"\n") => {
@@ -100,12 +115,21 @@ fn push_parameters(
     message: &mut Message,
     known: Known<'_>,
     place: Option<Span>,
-) -> Result<(), NoMemory> {
+) -> Result<(), NoMemory>
+    ensures { OnOk result (told.KeepsSentence message.old message.new) }
+{
     let Some(declaration) = added_in(known, place) else {
         return Ok(());
     };
-    let parameters = parameters_of(declaration);
     message.hint()?;
+    push_declared(message, declaration)
+}
+
+/// A stream with its parameters.
+fn push_declared(message: &mut Message, declaration: &Decl) -> Result<(), NoMemory>
+    ensures { OnOk result (GoesOn message.old message.new) }
+{
+    let parameters = parameters_of(declaration);
     message.quoted(declaration.name.as_bytes())?;
     message.add(b" has ")?;
     message.number(parameters.len() as u64)?;
@@ -176,7 +200,9 @@ fn is_of_both_kinds(mismatch: Mismatch) -> bool {
 }
 
 /// The declared name that is most like one that isn't, or what stands for a foreign one.
-fn push_nearest(message: &mut Message, known: Known<'_>, name: &[u8]) -> Result<(), NoMemory> {
+fn push_nearest(message: &mut Message, known: Known<'_>, name: &[u8]) -> Result<(), NoMemory>
+    ensures { OnOk result (told.KeepsSentence message.old message.new) }
+{
     if push_foreign_hint(message, name)? {
         return Ok(());
     }
@@ -215,9 +241,12 @@ fn rate_hint(refusal: &Refusal) -> &'static [u8] {
         Refusal::RateUnknown { .. } => {
             b"each way through the body has to push and pop the same, in loops of fixed length"
         }
-        Refusal::PeekOutside { .. } => b"declare a greater peek; places count from 0",
+        Refusal::PeekOutside { .. } => {
+            b"declare a greater peek; places count from 0, which is the next item after each pop"
+        }
         Refusal::RateLimit { .. } => {
-            b"rates are from 0 to 65,536, and work moves at least one item on a side that has items"
+            b"rates are from 0 to 65,536, and work moves at least one item on a side that has \
+                items, as in `work push 1 pop 1`"
         }
         Refusal::Inconsistent { .. } => {
             b"on each way from a split to its join a round has to bring as many items as are taken"

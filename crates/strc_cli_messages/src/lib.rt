@@ -2,7 +2,8 @@
 // Gives what a person reads of it: the part of the text that it is about, one sentence, and where
 // it helps a hint.
 // The theorems to rely on: `refusal_message`, `fault_message`: a message is about the part that
-// breaks the rule, or that faults, by the text's own tree, stream and graph.
+// breaks the rule, or that faults, by the text's own tree, stream and graph, and says in that
+// rule's or that fault's own words what it is.
 // Stands on strc_cli_places, which finds the place, on strc_cli_source, which builds messages and
 // tells of the nodes of a stream, on strc_run_refusal, whose refusals and rounds it tells of, on
 // strc_elab_statements, which says what can be the main stream, and on strc_work_rules, whose rules

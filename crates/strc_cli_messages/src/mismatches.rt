@@ -1,5 +1,10 @@
 // What is said of a broken rule on types, kinds and parts.
 
+ghost use Rattle.std.specs.Prelude.{◌≡◌, OnOk};
+ghost use Rattle.strc_cli_diagnostics.specs.Messages.{with_more};
+ghost use Rattle.strc_cli_source.specs.NodeWords.{Adds};
+ghost use Rattle.strc_cli_messages.specs.RuleWords as words;
+
 use crate::marked_tokens::block_has;
 use std::alloc::AllocError;
 use strc_cli_diagnostics::message::Message;
@@ -17,39 +22,71 @@ pub(crate) fn push_mismatch(
     known: Known<'_>,
     mismatch: Mismatch,
     place: Option<Span>,
-) -> Result<(), AllocError> {
+) -> Result<(), AllocError>
+    ensures { OnOk result (Adds (words.AreRuleWords known.entry.source.text.now place mismatch)
+        message.old message.new) }
+{
     match mismatch {
-        Mismatch::DeclaredTwice => {
-            match place {
-                Some(place) => message.quoted(known.source.bytes(place))?,
-                None => message.add(b"a name")?,
-            }
-            message.add(b" is declared a second time here")
-        }
+        Mismatch::DeclaredTwice => push_again(message, known, place),
         Mismatch::Foreign(kind, part) => {
-            push_kind(message, b"a ", kind)?;
-            push_part(message, b" has no statements with ", part)
+            push_part(message, b"a ", kind, b" has no statements with ", part)
         }
         Mismatch::Second(kind, part) => {
-            push_kind(message, b"this ", kind)?;
-            push_part(message, b" has a second ", part)
+            push_part(message, b"this ", kind, b" has a second ", part)
         }
-        Mismatch::Missing(kind, Part::Add) if has_add(known, place) => {
-            message.add(b"no `add` of this ")?;
-            message.add(kind_keyword(kind).text())?;
-            message.add(b" has run")
-        }
-        Mismatch::Missing(kind, part) => {
-            push_kind(message, b"this ", kind)?;
-            push_part(message, b" has no ", part)
-        }
-        Mismatch::Value(wanted, found) => {
-            message.add(wanted_words(wanted))?;
-            message.add(b" is wanted here, and this is ")?;
-            message.add(found_words(found))
-        }
+        Mismatch::Missing(kind, part) => push_missing(message, known, kind, part, place),
+        Mismatch::Value(wanted, found) => push_value(message, wanted, found),
         _ => message.add(plain_rule(mismatch)),
     }
+}
+
+/// A name that is declared twice.
+#[tactic(auto, using(crate::proofs::Saying::in_two))]
+fn push_again(
+    message: &mut Message,
+    known: Known<'_>,
+    place: Option<Span>,
+) -> Result<(), AllocError>
+    ensures { OnOk result (message.new ≡ with_more message.old
+        (words.again_words known.entry.source.text.now place)) }
+{
+    match place {
+        Some(place) => {
+            message.quoted(known.source.bytes(place))?;
+            message.add(b" is declared a second time here")
+        }
+        None => message.add(b"a name is declared a second time here"),
+    }
+}
+
+/// A part that a stream of a kind lacks, or an `add` that hasn't run.
+fn push_missing(
+    message: &mut Message,
+    known: Known<'_>,
+    kind: CompositeKind,
+    part: Part,
+    place: Option<Span>,
+) -> Result<(), AllocError>
+    ensures { OnOk result (Adds (words.AreMissingWords kind part) message.old message.new) }
+{
+    match part {
+        Part::Add if has_add(known, place) => {
+            message.add(b"no `add` of this ")?;
+            message.add(kind_keyword(kind).text())?;
+            Ok(message.add(b" has run")?)
+        }
+        _ => push_part(message, b"this ", kind, b" has no ", part),
+    }
+}
+
+/// A value of one type where another one is wanted.
+#[tactic(auto, using(crate::proofs::Saying::in_three))]
+fn push_value(message: &mut Message, wanted: ValueType, found: ValueType) -> Result<(), AllocError>
+    ensures { OnOk result (message.new ≡ with_more message.old (words.value_words wanted found)) }
+{
+    message.add(wanted_words(wanted))?;
+    message.add(b" is wanted here, and this is ")?;
+    message.add(found_words(found))
 }
 
 /// Whether the block of the stream at a place has an `add`.
@@ -60,17 +97,26 @@ fn has_add(known: Known<'_>, place: Option<Span>) -> bool {
     }
 }
 
-fn push_kind(message: &mut Message, before: &[u8], kind: CompositeKind) -> Result<(), AllocError> {
+/// A kind of stream and a part, with what is said before each.
+fn push_part(
+    message: &mut Message,
+    before: &[u8],
+    kind: CompositeKind,
+    middle: &[u8],
+    part: Part,
+) -> Result<(), AllocError>
+    ensures { OnOk result (message.new ≡ with_more message.old
+        (words.part_words before.now kind middle.now part)) }
+{
     message.add(before)?;
-    message.add(kind_keyword(kind).text())
-}
-
-fn push_part(message: &mut Message, before: &[u8], part: Part) -> Result<(), AllocError> {
-    message.add(before)?;
+    message.add(kind_keyword(kind).text())?;
+    message.add(middle)?;
     message.quoted(part_keyword(part).text())
 }
 
-fn wanted_words(kind: ValueType) -> &'static [u8] {
+fn wanted_words(kind: ValueType) -> &'static [u8]
+    ensures { result.now ≡ words.wanted_words kind }
+{
     match kind {
         ValueType::Int => b"a number",
         ValueType::Boolean => b"a truth value",
@@ -78,7 +124,9 @@ fn wanted_words(kind: ValueType) -> &'static [u8] {
     }
 }
 
-fn found_words(kind: ValueType) -> &'static [u8] {
+fn found_words(kind: ValueType) -> &'static [u8]
+    ensures { result.now ≡ words.found_words kind }
+{
     match kind {
         ValueType::Int => b"a number",
         ValueType::Boolean => b"a truth value",
@@ -87,7 +135,9 @@ fn found_words(kind: ValueType) -> &'static [u8] {
 }
 
 /// A rule of which nothing else is told.
-fn plain_rule(mismatch: Mismatch) -> &'static [u8] {
+fn plain_rule(mismatch: Mismatch) -> &'static [u8]
+    ensures { result.now ≡ words.plain_rule_words mismatch }
+{
     match mismatch {
         Mismatch::NoWork => b"this filter has no `work`",
         Mismatch::SecondWork => b"this filter has a second `work`",
@@ -155,7 +205,8 @@ pub(crate) fn mismatch_hint(mismatch: Mismatch) -> &'static [u8] {
         Mismatch::NoCalls => b"fields, init, prework, work and helper functions call them",
         Mismatch::NothingGiven => b"its call is a statement of its own",
         Mismatch::FlowInHelper => b"do it in work, and give the helper function what it needs",
-        Mismatch::NoHelper => b"a filter gives an item by `push`",
+        Mismatch::NoHelper =>
+            b"the rest of a body can stand in an `if`; an item is given by `push`",
         Mismatch::ValueMissing => b"write the value, as `return 0;`",
         Mismatch::ValueUnwanted => b"write `return;`, or give the helper function a type",
         Mismatch::StreamStatement => b"streams are added in a pipeline or a splitjoin",

@@ -4,6 +4,7 @@
 ghost use Rattle.std.specs.Prelude.{◌≡◌, ◌<◌, IfOk, IfSome, find, length, position};
 ghost use Rattle.std.specs.Option.{option_map};
 ghost use Rattle.strc_cli_places.specs.Parts.{declarations_of};
+ghost use Rattle.strc_cli_messages.specs.RefusalWords as words;
 ghost use Rattle.strc_cli_messages.specs.Told as told;
 
 use std::alloc::Global;
@@ -15,13 +16,11 @@ use strc_cli_source::preorder::Preorder;
 use strc_cli_syntax::place_words::push_place;
 use strc_elab_statements::main_stream::can_be_main;
 use strc_lex_names::memory::NoMemory;
-use strc_lex_names::place::Span;
 use strc_parse_tree::tree::Decl;
 use strc_run_refusal::refusal::Refusal;
 use strc_work_rules::site::{Mismatch, Site};
 
 /// The message, where the two parts are known.
-#[tactic(auto, using(crate::proofs::Telling::told_again))]
 pub(crate) fn pair_message(
     known: Known<'_>,
     refusal: &Refusal,
@@ -89,19 +88,21 @@ fn first_main(declarations: &[Decl]) -> Option<usize>
 
 /// A declaration, and an earlier one of its name.
 fn two_of_a_name(known: Known<'_>, site: Site) -> Result<Option<Message>, NoMemory>
-    ensures { IfOk result (λ found. IfSome found
-        (told.TellsAgain known.entry.source.tokens.now site)) }
+    ensures { IfOk result (told.TellsIfAgain known.entry.source.text.now
+        known.entry.source.tokens.now site) }
 {
-    let (Some(Mismatch::StreamTwice(first)), Some(second)) = (site.mismatch, site.place) else {
-        return Ok(None);
-    };
-    let source = known.source;
-    let place = Some(source.heading(second));
-    let mut message = Message::new(known.alloc);
-    message.quoted(source.bytes(second))?;
-    message.add(b" is declared twice: here, and before it")?;
-    push_place(&mut message, source.text, first)?;
-    Ok(Some(message.about(MessageKind::Plain, place)))
+    match (site.mismatch, site.place) {
+        (Some(Mismatch::StreamTwice(first)), Some(second)) => {
+            let source = known.source;
+            let place = Some(source.heading(second));
+            let mut message = Message::new(known.alloc);
+            message.quoted(source.bytes(second))?;
+            message.add(b" is declared twice: here, and before it")?;
+            push_place(&mut message, source.text, first)?;
+            Ok(Some(message.about(MessageKind::Plain, place)))
+        }
+        _ => Ok(None),
+    }
 }
 
 /// Two nodes.
@@ -141,7 +142,9 @@ fn pair_in(
     pair_of(alloc, order, refusal)
 }
 
-fn joining_words(refusal: &Refusal) -> &'static [u8] {
+fn joining_words(refusal: &Refusal) -> &'static [u8]
+    ensures { result.now ≡ words.joining_words refusal.now }
+{
     match refusal {
         Refusal::TwoInputs => b" takes the input, and so does ",
         Refusal::TapeTwice { .. } => b" writes to the same file as ",

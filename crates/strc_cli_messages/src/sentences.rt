@@ -1,11 +1,16 @@
 // The sentences that need nothing but the refusal.
 
+ghost use Rattle.std.specs.Prelude.{◌≡◌, slice_get};
+ghost use Rattle.strc_cli_messages.specs.RefusalWords as words;
+
 use strc_cli_source::source::Source;
 use strc_run_refusal::refusal::Refusal;
 use strc_work_meaning::fault::Cause;
 
 /// What is said of a refusal; of one that names a node or a channel, what follows their names.
-pub(crate) fn plain_sentence(source: Source<'_>, refusal: &Refusal) -> &'static [u8] {
+pub(crate) fn plain_sentence(source: Source<'_>, refusal: &Refusal) -> &'static [u8]
+    ensures { words.ArePlainWords source.entry.text.now refusal.now result.now }
+{
     match refusal {
         Refusal::Lex { at } => lexical_sentence(source.text, *at),
         Refusal::ConstFault { cause } => start_fault_sentence(*cause),
@@ -25,8 +30,17 @@ pub(crate) fn plain_sentence(source: Source<'_>, refusal: &Refusal) -> &'static 
 }
 
 /// Why no token begins at a byte.
-fn lexical_sentence(text: &[u8], at: usize) -> &'static [u8] {
-    match text.get(at) {
+fn lexical_sentence(text: &[u8], at: usize) -> &'static [u8]
+    ensures { words.AreLexicalWords (slice_get text.now at) result.now }
+{
+    byte_sentence(text, at, text.get(at).copied())
+}
+
+/// The same of this byte.
+fn byte_sentence(text: &[u8], at: usize, byte: Option<u8>) -> &'static [u8]
+    ensures { words.AreLexicalWords byte result.now }
+{
+    match byte {
         Some(b'"') => b"this string isn't closed on its line, or has a backslash in it",
         Some(b'/') => b"this comment is never closed",
         Some(b'.') if is_before_letter(text, at) => b"nothing has parts that are named by a `.`",
@@ -65,7 +79,9 @@ fn is_before_letter(text: &[u8], at: usize) -> bool {
 }
 
 /// Which fault the text comes to before it runs.
-pub(crate) fn start_fault_sentence(cause: Cause) -> &'static [u8] {
+pub(crate) fn start_fault_sentence(cause: Cause) -> &'static [u8]
+    ensures { result.now ≡ words.start_words cause }
+{
     match cause {
         Cause::DivZero => b"a number is divided by zero while the streams are put together",
         Cause::Index => b"an index or a length is out of bounds while the streams are put together",
@@ -76,7 +92,9 @@ pub(crate) fn start_fault_sentence(cause: Cause) -> &'static [u8] {
 }
 
 /// What is wrong with the whole program.
-fn program_sentence(refusal: &Refusal) -> &'static [u8] {
+fn program_sentence(refusal: &Refusal) -> &'static [u8]
+    ensures { result.now ≡ words.program_words refusal.now }
+{
     match refusal {
         Refusal::TextTooLong => b"the text is longer than 1,048,576 bytes",
         Refusal::Nesting => b"a statement or an expression is nested deeper than 256",

@@ -20,7 +20,8 @@ use Rattle.strc_cli_places.specs.Large.{MarksLarge}
 use Rattle.strc_cli_places.specs.Nodes.{MarksChannel, MarksStatement, declared_name, heading_of}
 use Rattle.strc_cli_places.specs.Nodes.{node_statement}
 use Rattle.strc_cli_places.specs.Parts.{IsUndeclared, MarksDeclaration, declaration_at, ends_of}
-use Rattle.strc_cli_places.specs.Refused.{MarksLevels, MarksRateOf, MarksTrapped, fault_part}
+use Rattle.strc_cli_places.specs.Refused.{MarksElse, MarksLevels, MarksRateOf, byte_of}
+use Rattle.strc_cli_places.specs.Refused.{fault_part, trapped_part}
 use Rattle.strc_cli_places.specs.Refused.{is_beyond, is_wrong}
 use Rattle.strc_cli_places.specs.Refused.{outside_at, uncounted_at}
 use Rattle.strc_cli_places.specs.Streams.{main_of, members_at}
@@ -56,9 +57,10 @@ module _ (text : List ℕ) (tokens : List Token) (asked : Option (List ℕ)) (pr
   MarksFaultAt cause (Some at) place =
       place ≡ Some (fault_part tokens cause (members_at text program at) at)
 
-  -- what faults before the program runs
+  -- what faults before the program runs: what trapped, where the site knows it
   abbrev pub MarksFault : Cause → Option Span → Type 0
-  MarksFault cause place = MarksTrapped tokens cause place ⊎ MarksFaultAt cause site.place place
+  MarksFault cause place = MarksElse (trapped_part tokens cause (byte_of site.trapped.mark))
+      (MarksFaultAt cause site.place) place
 
   -- a statement of a node's filter; where none is found the filter's name, or the statement that
   -- the node comes from

@@ -1,9 +1,10 @@
 -- Which rates of a filter break a rule, and what is marked for one that does; which refusals are
 -- about a statement, and what is marked for a fault before the program runs.
-use Rattle.std.specs.Prelude.{◌≡◌, ◌⊎◌, ℕ, ℤ, pos, Bool, true, false, not, ◌&&◌, ◌||◌, List, []}
+use Rattle.std.specs.Prelude.{◌≡◌, ◌⊎◌, ℕ, zero, suc, ◌+◌, ℤ, pos, Bool, true, false, not, ◌&&◌}
+use Rattle.std.specs.Prelude.{◌||◌, List, [], position}
 use Rattle.std.specs.Prelude.{Option, Some, None, IfSome, unwrap_or, slice_get, ◌==◌, ◌^◌, ◌-◌}
 use Rattle.std.specs.Prelude.{if◌then◌else◌}
-use Rattle.std.specs.Option.{option_map, option_and_then}
+use Rattle.std.specs.Option.{option_map, option_and_then, option_or}
 use Rattle.std.specs.Ordering.{int_eq}
 use Rattle.strc_lex_names.specs.declared.place.Span.{Span}
 use Rattle.strc_lex.specs.declared.token.Token.{Token}
@@ -157,11 +158,15 @@ abbrev pub filter_name : Option Node → Option (List ℕ)
 filter_name (Some (node.Filter instance)) = instance.name
 filter_name _ = None
 
--- an operator of the text that can fault so
-abbrev pub IsOperatorOf : List Token → Cause → Span → Type 0
-IsOperatorOf tokens cause part = (number : ℕ)
-    × (option_map (λ token. can_fault cause token.kind) (slice_get tokens number) ≡ Some true)
-    × (operator_at tokens (Some number) ≡ Some part)
+-- the operator at a token, where it can fault so
+abbrev pub faulting_operator : List Token → Cause → (number : ℕ) → Option Token → Option Span
+faulting_operator tokens cause number None = None
+faulting_operator tokens cause number (Some found) =
+    if can_fault cause found.kind then operator_at tokens (Some number) else None
+
+abbrev pub operator_there : List Token → Cause → (number : ℕ) → Option Span
+operator_there tokens cause number =
+    faulting_operator tokens cause number (slice_get tokens number)
 
 -- a token that a loop begins with, or the name of what is called
 abbrev pub is_name : TokenKind → Bool
@@ -182,26 +187,44 @@ abbrev pub turning_span : Token → Span
 turning_span found = if is_loop found.kind
     then (record { start = found.span.start; end = 2 ^ 64 - 1 }) else found.span
 
--- a loop of the text, or what is called there, of which a turn or a call can be one too many
-abbrev pub IsTurnOf : List Token → Cause → Span → Type 0
-IsTurnOf tokens cause part = (found : Token) × (number : ℕ)
-    × (slice_get tokens number ≡ Some found) × (can_turn cause found.kind ≡ true)
-    × (part ≡ heading (turning_span found) tokens)
+-- the loop or the call at a token, where a turn or a call can be one too many there
+abbrev pub turning_part : List Token → Cause → Option Token → Option Span
+turning_part tokens cause None = None
+turning_part tokens cause (Some found) =
+    if can_turn cause found.kind then Some (heading (turning_span found) tokens) else None
 
--- an operator that can fault so, or a loop or a call
-abbrev pub IsTrappedPart : List Token → Cause → Span → Type 0
-IsTrappedPart tokens cause part = IsOperatorOf tokens cause part ⊎ IsTurnOf tokens cause part
+-- what can end so at a token: the operator there, or behind the array's name that is there, or else
+-- the loop or the call
+abbrev pub part_there : List Token → Cause → (number : Option ℕ) → Option Span
+part_there tokens cause None = None
+part_there tokens cause (Some number) = option_or
+    (option_or (operator_there tokens cause number) (operator_there tokens cause (number + 1)))
+    (turning_part tokens cause (slice_get tokens number))
 
-abbrev pub MarksTrapped : List Token → Cause → Option Span → Type 0
-MarksTrapped tokens cause place =
-    (part : Span) × (place ≡ Some part) × IsTrappedPart tokens cause part
+-- the number of the byte where something begins, by its mark, which is one more, and 0 where
+-- nothing is known
+abbrev pub byte_of : (mark : ℕ) → Option ℕ
+byte_of zero = None
+byte_of (suc byte) = Some byte
 
--- what is marked of a fault in a firing of a node, of this body: what trapped, or the part of the
--- only statement that can fault so, or else the name of its filter
+-- what trapped, where it is known at which byte that begins
+abbrev pub trapped_part : List Token → Cause → (byte : Option ℕ) → Option Span
+trapped_part tokens cause None = None
+trapped_part tokens cause (Some byte) =
+    part_there tokens cause (position (λ found. found.span.start == byte) tokens)
+
+-- what is marked of a fault: what trapped, or where nothing that trapped is known something else
+abbrev pub MarksElse : (trapped : Option Span) → (Option Span → Type 0) → Option Span → Type 0
+MarksElse None Marks place = Marks place
+MarksElse (Some part) Marks place = place ≡ Some part
+
+-- what is marked of a fault in a firing of a node, of this body: what trapped, at the byte that the
+-- machine tells of, if any; or the part of the only statement that can fault so, or else the name
+-- of its filter
 abbrev pub MarksFaultOf : List ℕ → List Token → Cause → Body → Option Node → Option Span → Type 0
-MarksFaultOf text tokens cause body faulting place = MarksTrapped tokens cause place
-    ⊎ MarksPart text tokens cause (filter_name faulting)
-    (option_and_then (fault_place cause body) (node_tree faulting)) place
+MarksFaultOf text tokens cause body faulting place = (byte : Option ℕ)
+    × MarksElse (trapped_part tokens cause byte) (MarksPart text tokens cause (filter_name faulting)
+    (option_and_then (fault_place cause body) (node_tree faulting))) place
 
 -- the body of a firing with so many before it: the first is the prework, or where there is none the
 -- work

@@ -21,7 +21,7 @@ use crate::origins::{place_of_channel, place_of_node};
 use crate::rate_places::{moved_of, place_of_rate};
 use crate::recursion::recursive_statement;
 use crate::starts::faulting_start;
-use crate::trapped::trapped_part;
+use crate::trapped::{byte_of, trapped_part};
 use strc_cli_counts::large::large_channel;
 use strc_cli_source::channel_rates::rates_of;
 use strc_cli_source::operators::faulting_part;
@@ -35,7 +35,7 @@ use strc_lex_names::place::Span;
 use strc_parse_tree::tree::CompositeKind;
 use strc_run_refusal::refusal::Refusal;
 use strc_work_code::code::Code;
-use strc_work_meaning::fault::{Cause, LocatedCause};
+use strc_work_meaning::fault::Cause;
 use strc_work_rules::site::{Mismatch, Part, Site};
 
 /// In a text of more tokens no unused declaration is looked for.
@@ -241,8 +241,7 @@ fn place_of_fault(known: Known<'_>, site: Site, cause: Cause) -> Result<Option<S
         (option_map (λ g. g.now) known.entry.graph) site
         cause) }
 {
-    let located = LocatedCause::new(cause, site.trapped);
-    match trapped_part(known.source, &located) {
+    match trapped_part(known.source, cause, byte_of(site.trapped)) {
         Some(part) => Ok(Some(part)),
         None => place_of_faulting(known, site, cause),
     }

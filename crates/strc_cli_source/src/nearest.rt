@@ -3,13 +3,13 @@
 use std::alloc::Global;
 use strc_lex::token::{Keyword, Punctuation, Token, TokenKind};
 use strc_lex_names::memory::NoMemory;
-use strsim::generic_levenshtein;
+use strsim::generic_damerau_levenshtein;
 
 /// Longer names aren't compared.
 const LONGEST: usize = 64;
 
-/// The name that is declared in a text and that takes the fewest changes of a letter to become this
-/// one, where they are few.
+/// The name that is declared in a text and that takes the fewest changes of a letter, or swaps of
+/// two neighbours, to become this one, where they are few; or that is the same but for capitals.
 pub fn nearest_name<'a>(
     alloc: Global,
     tokens: &'a [Token],
@@ -19,6 +19,9 @@ pub fn nearest_name<'a>(
     let mut least = allowed(name);
     for place in 1..tokens.len() {
         if let Some(found) = introduced(tokens, place) {
+            if found != name && found.eq_ignore_ascii_case(name) {
+                return Ok(Some(found));
+            }
             let changes = distance(alloc, found, name)?;
             if changes != 0 && changes <= least {
                 // The next one has to take fewer.
@@ -39,12 +42,12 @@ fn allowed(name: &[u8]) -> usize {
     }
 }
 
-/// How many changes of a letter lead from one name to another.
+/// How many changes of a letter, or swaps of two neighbours, lead from one name to another.
 fn distance(alloc: Global, found: &[u8], name: &[u8]) -> Result<usize, NoMemory> {
     if found.len() > LONGEST {
         return Ok(0);
     }
-    Ok(generic_levenshtein(alloc, found, name)?)
+    Ok(generic_damerau_levenshtein(alloc, found, name)?)
 }
 
 /// The name at a place, where it is declared there: after a type, a kind of stream, or a comma.

@@ -16,6 +16,14 @@ pub fn push_foreign_hint(message: &mut Message, word: &[u8]) -> Result<bool, NoM
     Ok(!hint.is_empty())
 }
 
+/// Whether another text is asked for at a byte, as C does.
+pub fn is_include(text: &[u8], at: usize) -> bool {
+    match text.get(at..) {
+        Some(rest) => rest.starts_with(b"#include"),
+        None => false,
+    }
+}
+
 /// What stands here for a word that is one of C's, of Java's or of StreamIt's own; nothing for
 /// another word.
 pub(crate) fn foreign_hint(word: &[u8]) -> &'static [u8] {
@@ -25,8 +33,10 @@ pub(crate) fn foreign_hint(word: &[u8]) -> &'static [u8] {
     }
 }
 
-const CONSTANT: &str = "a parameter keeps its value, and so does a field that only init sets, as a \
-    table: `int[31] t; init { t[0] = 5; t[1] = 7; }`";
+const CONSTANT: &str = "leave it out: a parameter keeps its value, and so does a field that only \
+    init sets, as a table: `int[31] t; init { t[0] = 5; t[1] = 7; }`";
+
+const NUMBERED: &str = "parameters and fields keep numbers that have names";
 
 const NUMBERS: &str = "numbers are `int`, of 32 bits with a sign";
 
@@ -58,7 +68,7 @@ const FOREIGN: [(&str, &str); 48] = [
     ("final", CONSTANT),
     (
         "static",
-        "a field of a filter keeps its value from firing to firing, and init sets it first",
+        "leave it out: a field of a filter keeps its value from firing to firing",
     ),
     ("unsigned", NUMBERS),
     ("signed", NUMBERS),
@@ -87,7 +97,7 @@ const FOREIGN: [(&str, &str); 48] = [
     ("package", ONE_TEXT),
     ("typedef", STRUCTURES),
     ("union", STRUCTURES),
-    ("enum", CONSTANT),
+    ("enum", NUMBERED),
     ("native", COMPUTED),
     ("extern", COMPUTED),
     (

@@ -127,6 +127,9 @@ fn before_hint(source: Source<'_>, number: usize) -> &'static [u8] {
 
 /// How a keyword can be mended.
 fn keyword_hint(source: Source<'_>, number: usize, keyword: Keyword) -> &'static [u8] {
+    if is_name_of_a_number(source, number) {
+        return b"this word is one of the language's own, and names nothing else";
+    }
     match keyword {
         Keyword::Break => b"a loop ends by its condition",
         Keyword::Continue => b"an `if` round the rest of the body stands for it",
@@ -147,6 +150,17 @@ fn keyword_hint(source: Source<'_>, number: usize, keyword: Keyword) -> &'static
         Keyword::Duplicate => b"a join takes items in turn, by `roundrobin`",
         Keyword::Boolean => b"parameters are `int`: 1 and 0 stand for true and false",
         _ => before_hint(source, number),
+    }
+}
+
+/// Whether a keyword stands where a name is declared: behind the type of a number, in no type of a
+/// stream.
+fn is_name_of_a_number(source: Source<'_>, number: usize) -> bool {
+    match (before(source, number), source.tokens.get(number)) {
+        (Some(token), Some(found)) => {
+            is_type(token) && !follows_arrow(source, number) && !can_follow_a_stream(found)
+        }
+        _ => false,
     }
 }
 
@@ -201,6 +215,12 @@ fn mark_hint(source: Source<'_>, number: usize, mark: Punctuation) -> &'static [
             )
         }
         Punctuation::Comma if is_rated(source, number) => b"rates stand without commas",
+        Punctuation::Comma if is_in_for(source, number) => {
+            b"a `for` has one step: another one is a statement of its own"
+        }
+        Punctuation::CloseParen if names_no_file(source, number) => {
+            b"the file's name stands there, in quotes"
+        }
         Punctuation::CloseBrace if is_outside(source, number) => {
             b"no `{` is open here: there is a `}` too many before it"
         }
@@ -215,16 +235,43 @@ fn mark_hint(source: Source<'_>, number: usize, mark: Punctuation) -> &'static [
     }
 }
 
+/// Whether a token is in the head of a `for`.
+fn is_in_for(source: Source<'_>, number: usize) -> bool {
+    let earlier = &source.tokens[..number.min(source.tokens.len())];
+    match earlier
+        .iter()
+        .rev()
+        .find(|it| is_keyword(it, Keyword::For) || ends_block(it))
+    {
+        Some(last) => is_keyword(last, Keyword::For),
+        None => false,
+    }
+}
+
+/// Whether a token begins or ends a block.
+fn ends_block(token: &Token) -> bool {
+    is_mark(token, Punctuation::OpenBrace) || is_mark(token, Punctuation::CloseBrace)
+}
+
+/// Whether a token ends the parentheses of a reader or writer with nothing in them.
+fn names_no_file(source: Source<'_>, number: usize) -> bool {
+    follows(source, number, Punctuation::OpenParen)
+        && follows(source, number.saturating_sub(1), Punctuation::Greater)
+}
+
 /// How an assignment can be mended.
 fn assign_hint(source: Source<'_>, number: usize) -> &'static [u8] {
     match before(source, number) {
         Some(token) if is_uncombined(token) => {
-            b"only `+=`, `-=`, `*=`, `/=` and `%=` compute: `x = x << n` stands for `x <<= n`"
+            b"only `+=`, `-=`, `*=`, `/=` and `%=` compute: `x = x << n` stands for `x <<= n`, \
+                and `x = x | n` for `x |= n`"
         }
+        Some(token) if is_rate(token) => b"a rate has no `=`: `work push 1 pop 1`",
         _ if assigns_before(source, number) => {
             b"an assignment has no value: each is a statement of its own"
         }
-        _ => b"two values are compared by `==`",
+        _ if is_before(source, number, Punctuation::Greater) => b"`>=` stands for at least",
+        _ => b"two values are compared by `==`, and an assignment has no value",
     }
 }
 
@@ -250,9 +297,7 @@ fn assigns_before(source: Source<'_>, number: usize) -> bool {
 
 /// Whether a token ends a statement or begins a block.
 fn ends_part(token: &Token) -> bool {
-    is_mark(token, Punctuation::Semicolon)
-        || is_mark(token, Punctuation::OpenBrace)
-        || is_mark(token, Punctuation::CloseBrace)
+    is_mark(token, Punctuation::Semicolon) || ends_block(token)
 }
 
 /// How the type of an array can be mended.
@@ -311,6 +356,14 @@ fn has_type_before(source: Source<'_>, number: usize) -> bool {
 /// Whether the token before one is this mark.
 fn follows(source: Source<'_>, number: usize, mark: Punctuation) -> bool {
     match before(source, number) {
+        Some(token) => is_mark(token, mark),
+        None => false,
+    }
+}
+
+/// Whether the token behind one is this mark.
+fn is_before(source: Source<'_>, number: usize, mark: Punctuation) -> bool {
+    match source.tokens.get(number.saturating_add(1)) {
         Some(token) => is_mark(token, mark),
         None => false,
     }
